@@ -1,0 +1,3 @@
+pub mod Decimal
+pub mod Lists
+pub mod Sample

@@ -1,0 +1,3 @@
+pub mod Each
+pub mod Refusals
+pub mod Lists

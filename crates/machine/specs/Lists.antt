@@ -1,0 +1,13 @@
+-- Lists that are put together in order of a number, as the cells of a line and the lines of a frame are.
+-- Assumes nothing.
+use Prim.Native.Nat.{ℕ, zero, suc}
+use mathlib.Core.List.{List, [], _++_, List·Memᴰ}
+
+-- the lists that f gives for 0, 1, .. n - 1, joined in this order
+unfoldable pub gather : {A : Type 0} → (ℕ → List A) → ℕ → List A
+gather f zero = []
+gather f (suc n) = gather f n ++ f n
+
+-- P holds of each element of a list
+abbrev pub Each : {A : Type 0} → (A → Type 0) → List A → Type 0
+Each {A} P xs = (x : A) → List·Memᴰ x xs → P x

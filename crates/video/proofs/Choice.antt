@@ -1,0 +1,27 @@
+-- Laws of a choice between two values, and of a pattern's six choices.
+-- Assumes nothing.
+use Prim.Native.Nat.{ℕ, _≤_}
+use mathlib.Core.Bool.{Bool, true, false, cond}
+use mathlib.Core.List.{List, [], _∷_, map}
+use mathlib.Core.Path.{_≡_, refl, ap₂}
+use Rattle.machine.specs.Bits.{bit}
+use Rattle.video.specs.Registers.{patternColour}
+
+-- what holds of both values holds of the chosen one
+pub cond-all : {A : Type 0} (P : A → Type 0) (b : Bool) (x y : A) → P x → P y → P (cond b x y)
+cond-all P true x y px py = px
+cond-all P false x y px py = py
+
+pub cond-most : (b : Bool) (x y : ℕ) {most : ℕ} → x ≤ most → y ≤ most → cond b x y ≤ most
+cond-most b x y {most} = cond-all (λ (n : ℕ). n ≤ most) b x y
+
+cond-map : (f : ℕ → ℕ) (b : Bool) (x y : ℕ) → cond b (f x) (f y) ≡ f (cond b x y)
+cond-map f true x y = refl
+cond-map f false x y = refl
+
+-- a change of ink and paper is a change of each pixel
+pub pattern-map : (f : ℕ → ℕ) (ink paper pattern : ℕ) (weights : List ℕ)
+    → map (patternColour (f ink) (f paper) pattern) weights ≡ map f (map (patternColour ink paper pattern) weights)
+pattern-map f ink paper pattern [] = refl
+pattern-map f ink paper pattern (weight ∷ weights) =
+    ap₂ _∷_ (cond-map f (bit weight pattern) ink paper) (pattern-map f ink paper pattern weights)

@@ -1,0 +1,10 @@
+pub mod Accepted
+pub mod Agreement
+pub mod Addresses
+pub mod Answers
+pub mod Cells
+pub mod Choice
+pub mod Frames
+pub mod Lines
+pub mod Places
+pub mod Readings

@@ -1,0 +1,36 @@
+-- Where the bytes of a cell are.
+-- Assumes nothing.
+use Prim.Native.Nat.{ℕ, _+_, _*_, _/_, _%_}
+use mathlib.Core.Bool.{Bool, cond, _&&_}
+use lib.Dec.{ltb}
+use Rattle.machine.specs.Bits.{bit}
+
+-- bit 2 of the mode chooses hires, else text
+abbrev pub isHires : ℕ → Bool
+isHires mode = bit 4 mode
+
+-- lines 0 to 199 in hires show their screen bytes as patterns
+abbrev pub isBitmap : ℕ → ℕ → Bool
+isBitmap line mode = ltb line 200 && isHires mode
+
+-- the address of a cell's screen byte
+abbrev pub screenAddress : ℕ → ℕ → ℕ → ℕ
+screenAddress line column mode =
+    cond (isBitmap line mode) (0xA000 + 40 * line + column) (0xBB80 + 40 * (line / 8) + column)
+
+-- the address of the character set, where one is used
+abbrev pub characterSet : ℕ → ℕ
+characterSet mode = cond (isHires mode) 0x9800 0xB400
+
+-- how far behind the standard set the characters begin: bit 0 of the style chooses the alternate set
+abbrev pub alternateOffset : ℕ → ℕ
+alternateOffset style = cond (bit 1 style) 0x400 0
+
+-- the row of a character that a line shows: bit 1 of the style is double height
+abbrev pub characterRow : ℕ → ℕ → ℕ
+characterRow line style = cond (bit 2 style) (line / 2 % 8) (line % 8)
+
+-- the address of a character byte
+abbrev pub characterAddress : ℕ → ℕ → ℕ → ℕ → ℕ
+characterAddress line mode style code =
+    characterSet mode + alternateOffset style + 8 * code + characterRow line style

@@ -1,0 +1,9 @@
+pub mod State
+pub mod Address
+pub mod Registers
+pub mod Cell
+pub mod Line
+pub mod Frame
+pub mod Answer
+pub mod Region
+pub mod Laws

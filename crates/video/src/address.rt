@@ -1,0 +1,89 @@
+// Where the bytes of a cell are.
+ghost use mathlib.Core.Path.{_≡_};
+ghost use Prim.Native.Nat.{_<_};
+ghost use Rattle.video.specs.Address.{isHires, isBitmap, screenAddress, characterAddress};
+ghost use Rattle.video.specs.Answer.{addressRefusal, addressAnswer};
+use crate::bits::bit;
+use crate::bits::both;
+use crate::bits::choose_address;
+use machine::DONE;
+use machine::column_refusal;
+use machine::first_refusal;
+use machine::line_refusal;
+use machine::mode_refusal;
+
+// The lines that can show a bitmap; those below them are always text.
+const BITMAP_LINES: usize = 200;
+
+const BITMAP: usize = 0xA000;
+
+const TEXT_SCREEN: usize = 0xBB80;
+
+const TEXT_CHARACTERS: usize = 0xB400;
+
+const HIRES_CHARACTERS: usize = 0x9800;
+
+const ALTERNATE_CHARACTERS: usize = 0x400;
+
+#[repr(C)]
+pub struct ScreenAddress {
+    pub status: u8,
+    pub address: u16,
+}
+
+// Where the screen byte of a cell is. Refusals 3, 5, 6.
+pub fn screen_address(line: usize, column: usize, mode: u8) -> ScreenAddress
+    ensures { λ r. ⌜ r ≡ addressAnswer line column mode ⌝ }
+{
+    let status = address_refusal(line, column, mode);
+    if status != DONE {
+        return ScreenAddress { status, address: 0 };
+    }
+    ScreenAddress {
+        status,
+        address: screen_byte_address(line, column, mode) as u16,
+    }
+}
+
+fn address_refusal(line: usize, column: usize, mode: u8) -> u8
+    ensures { λ r. ⌜ r ≡ addressRefusal line column mode ⌝ }
+{
+    let wrong_mode = mode_refusal(mode);
+    let wrong_line = line_refusal(line);
+    let wrong_column = column_refusal(column);
+    first_refusal(wrong_mode, first_refusal(wrong_line, wrong_column))
+}
+
+pub(crate) fn is_hires(mode: u8) -> bool
+    ensures { λ r. ⌜ r ≡ isHires mode ⌝ }
+{
+    bit(4, mode)
+}
+
+pub(crate) fn is_bitmap(line: usize, mode: u8) -> bool
+    ensures { λ r. ⌜ r ≡ isBitmap line mode ⌝ }
+{
+    both(line < BITMAP_LINES, is_hires(mode))
+}
+
+pub(crate) fn screen_byte_address(line: usize, column: usize, mode: u8) -> usize
+    requires { ⌜ line < 224 ⌝ }
+    requires { ⌜ column < 40 ⌝ }
+    ensures { λ r. ⌜ r ≡ screenAddress line column mode ⌝ }
+{
+    choose_address(
+        is_bitmap(line, mode),
+        BITMAP + 40 * line + column,
+        TEXT_SCREEN + 40 * (line / 8) + column,
+    )
+}
+
+pub(crate) fn character_byte_address(line: usize, mode: u8, style: u8, code: usize) -> usize
+    requires { ⌜ code < 128 ⌝ }
+    ensures { λ r. ⌜ r ≡ characterAddress line mode style code ⌝ }
+{
+    let set = choose_address(is_hires(mode), HIRES_CHARACTERS, TEXT_CHARACTERS);
+    let alternate = choose_address(bit(1, style), ALTERNATE_CHARACTERS, 0);
+    let row = choose_address(bit(2, style), line / 2 % 8, line % 8);
+    set + alternate + 8 * code + row
+}

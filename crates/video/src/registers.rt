@@ -1,0 +1,118 @@
+// The four registers of the video half: they travel along a line as one value.
+ghost use mathlib.Core.Path.{_≡_};
+ghost use mathlib.Core.List.{map};
+ghost use Prim.Native.Nat.{_≤_, _<_};
+ghost use Rattle.video.specs.Registers.{lineStart, latched, shownInk, patternColour, patternColours, complemented};
+ghost use Rattle.video.specs.Registers.{isAttribute};
+use crate::bits::bit;
+use crate::bits::both;
+use crate::bits::choose;
+
+const WHITE: u8 = 7;
+
+const BLACK: u8 = 0;
+
+const PLAIN: u8 = 0;
+// From this count on flashing ink is hidden.
+const HIDDEN_FROM: u8 = 16;
+
+pub(crate) struct Registers {
+    pub ink: u8,
+    pub style: u8,
+    pub paper: u8,
+    pub mode: u8,
+}
+
+pub(crate) fn is_attribute(byte: u8) -> bool
+    ensures { λ r. ⌜ r ≡ isAttribute byte ⌝ }
+{
+    byte / 32 % 4 == 0
+}
+
+impl Registers {
+    // A mode that is carried over; the line reset sets the rest.
+    pub(crate) fn carrying(mode: u8) -> Self
+        ensures { λ r. ⌜ r .mode ≡ mode ⌝ }
+    {
+        Self {
+            ink: BLACK,
+            style: PLAIN,
+            paper: BLACK,
+            mode,
+        }
+    }
+
+    pub(crate) fn line_reset(self) -> Self
+        ensures { λ r. ⌜ r ≡ lineStart (self .mode) ⌝ }
+    {
+        Self {
+            ink: WHITE,
+            style: PLAIN,
+            paper: BLACK,
+            mode: self.mode,
+        }
+    }
+
+    pub(crate) fn latch_attribute(self, byte: u8) -> Self
+        ensures { λ r. ⌜ r ≡ latched self byte ⌝ }
+    {
+        let choice = byte % 32;
+        let value = byte % 8;
+        let mut after = self;
+        match choice {
+            0..=7 => after.ink = value,
+            8..=15 => after.style = value,
+            16..=23 => after.paper = value,
+            _ => after.mode = value,
+        }
+        after
+    }
+
+    // The six colours of a pattern: flash first, inverse last.
+    pub(crate) fn paint_colours(self, pattern: u8, byte: u8, counter: u8) -> [u8; 6]
+        requires { ⌜ self .ink ≤ 7 ⌝ }
+        requires { ⌜ self .paper ≤ 7 ⌝ }
+        ensures { λ r. ⌜ r ≡ map (complemented byte) (patternColours (shownInk self counter) (self .paper) pattern) ⌝ }
+    {
+        let ink = complement(byte, self.shown_ink(counter));
+        let paper = complement(byte, self.paper);
+        pattern_colours(pattern, ink, paper)
+    }
+
+    fn shown_ink(self, counter: u8) -> u8
+        ensures { λ r. ⌜ r ≡ shownInk self counter ⌝ }
+    {
+        choose(
+            both(bit(4, self.style), counter >= HIDDEN_FROM),
+            self.paper,
+            self.ink,
+        )
+    }
+}
+
+fn complement(byte: u8, colour: u8) -> u8
+    requires { ⌜ colour ≤ 7 ⌝ }
+    ensures { λ r. ⌜ r ≡ complemented byte colour ⌝ }
+{
+    choose(bit(128, byte), WHITE - colour, colour)
+}
+
+fn pattern_colours(pattern: u8, ink: u8, paper: u8) -> [u8; 6]
+    ensures { λ r. ⌜ r ≡ patternColours ink paper pattern ⌝ }
+{
+    [
+        pixel(32, pattern, ink, paper),
+        pixel(16, pattern, ink, paper),
+        pixel(8, pattern, ink, paper),
+        pixel(4, pattern, ink, paper),
+        pixel(2, pattern, ink, paper),
+        pixel(1, pattern, ink, paper),
+    ]
+}
+
+fn pixel(weight: u8, pattern: u8, ink: u8, paper: u8) -> u8
+    requires { ⌜ 0 < weight ⌝ }
+    ensures { λ r. ⌜ r ≡ patternColour ink paper pattern weight ⌝ }
+{
+    choose(bit(weight, pattern), ink, paper)
+}
