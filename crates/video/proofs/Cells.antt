@@ -6,7 +6,7 @@ use mathlib.Core.List.{List, map, Option·toList}
 use mathlib.Core.Path.{_≡_, refl}
 use native.Mathlib.Omega.{arith}
 use lib.Dec.{ltb}
-use lib.ListN.{getD, length}
+use lib.ListN.{getD, length, length-map}
 use Rattle.video.specs.Address.{isBitmap, characterAddress}
 use Rattle.video.specs.Cell.{cell, paintedCell, screenByte, registersAfter, characterUsed, coloursOf}
 use Rattle.video.specs.Registers.{isAttribute, latched, shownInk, patternColours, complemented}
@@ -30,7 +30,7 @@ pub cell-six : (memory : List ℕ) (counter line column : ℕ) (before : Registe
 unfolding cell coloursOf
 cell-six memory counter line column before =
     let byte = screenByte memory line column (before .mode) in
-    cond-all (λ (l : List ℕ). length (map (complemented byte) l) ≡ 6) (isAttribute byte) _ _ refl refl
+    simp length-map (cond-all (λ (l : List ℕ). length l ≡ 6) (isAttribute byte) _ _ refl refl)
 
 -- a pattern painted with the registers and the screen byte
 abbrev pub shown : Registers → ℕ → ℕ → ℕ → List ℕ

@@ -9,6 +9,7 @@ use borrow.Author.Needs.{needs}
 use Rattle.video.specs.Cell.{screenByte}
 use Rattle.video.proofs.Addresses.{screen-below, definition-below}
 use Rattle.video.proofs.Cells.{attribute-cell, bitmap-cell, character-cell, latched-coloured}
+use Rattle.video.specs.declared.registers.Registers.{Registers}
 use Rattle.video.proofs.cell.paint_cell.Statement.{statement}
 use Rattle.video.proofs.cell.paint_cell.Tie as tie
 
@@ -45,7 +46,13 @@ paint-colours-requires c κs =
     let k = c .before .before .before in
     let pre = k .before .before .before .pre .1 .1 in
     let known = latched-coloured (k .before .before .before .args .before) (byte k) (record { ink = pre .0; paper = pre .1 }) in
-    rw (c .latch-attribute .ensures) (known .ink, known .paper)
+    let after = c .latch-attribute .ensures in
+    omega (
+      arith,
+      known,
+      ap (λ (r : Registers). r .ink) after,
+      ap (λ (r : Registers). r .paper) after,
+    )
 
 returns : tie.Need-returns
 returns c =

@@ -1,0 +1,59 @@
+-- What a bus access answers, and what it leaves in the memory and the latches, for every input.
+-- Assumes nothing.
+use Prim.Native.Nat.{ℕ}
+use mathlib.Core.Bool.{Bool, cond, _||_}
+use mathlib.Core.List.{List, [], _∷_}
+use lib.Dec.{eqb}
+use lib.ListN.{getD, length, set}
+use Rattle.machine.specs.Refusal.{refusal, ifDone, memoryCheck, kindCheck}
+use Rattle.bus.specs.Latch.{latched}
+use Rattle.bus.specs.Target.{place}
+use Rattle.bus.specs.declared.cycle.Access.{Access}
+use Rattle.bus.specs.declared.cycle.Written.{Written}
+use Rattle.bus.specs.declared.latch.Latches.{Latches}
+use Rattle.bus.specs.declared.target.Place.{Place}
+
+-- targets 0 and 4 hold bytes of the memory
+abbrev pub isMemory : Place → Bool
+isMemory reached = eqb (reached .target) 0 || eqb (reached .target) 4
+
+-- the byte that a place gives: that of RAM and overlay RAM, 0 for the other targets
+abbrev pub fetched : List ℕ → Place → ℕ
+fetched memory reached = cond (isMemory reached) (getD memory (reached .number) 0) 0
+
+-- the memory after a byte was sent to a place: RAM and overlay RAM store it, no other target does
+abbrev pub stored : List ℕ → Place → ℕ → List ℕ
+stored memory reached byte = cond (isMemory reached) (set memory (reached .number) byte) memory
+
+-- refusals 1, 7, by the length of the memory and the latches
+abbrev pub accessRefusal : ℕ → Latches → ℕ
+accessRefusal size latches = refusal (memoryCheck size ∷ kindCheck (latches .kind) ∷ [])
+
+-- what every access answers: target, number and byte, each 0 where it is refused
+abbrev pub accessAnswer : ℕ → Place → ℕ → Access
+accessAnswer status reached byte =
+    ifDone status (record { status = 0; target = reached .target; number = reached .number; byte = byte })
+    (record { status = status; target = 0; number = 0; byte = 0 })
+
+-- a read gives the byte of its place, and changes nothing
+unfoldable pub readAnswer : List ℕ → Latches → ℕ → Access
+readAnswer memory latches address =
+    accessAnswer (accessRefusal (length memory) latches) (place latches address) (fetched memory (place latches address))
+
+-- a write has 0 for its byte read
+unfoldable pub writeAnswer : List ℕ → Latches → ℕ → Access
+writeAnswer memory latches address = accessAnswer (accessRefusal (length memory) latches) (place latches address) 0
+
+-- the memory that a write leaves
+unfoldable pub writeContents : List ℕ → Latches → ℕ → ℕ → List ℕ
+writeContents memory latches address byte =
+    ifDone (accessRefusal (length memory) latches) (stored memory (place latches address) byte) memory
+
+-- the latches that a write leaves
+unfoldable pub writeLatches : List ℕ → Latches → ℕ → ℕ → Latches
+writeLatches memory latches address byte = ifDone (accessRefusal (length memory) latches) (latched latches address byte) latches
+
+-- the answer of the write by value: that of the access, and the latches
+abbrev pub written : Access → Latches → Written
+written answer latches =
+    record { status = answer .status; target = answer .target; number = answer .number; byte = answer .byte; latches = latches }

@@ -1,0 +1,3 @@
+pub mod Latch
+pub mod Target
+pub mod Cycle

@@ -1,0 +1,121 @@
+// One read or write of the bus.
+ghost use mathlib.Core.Path.{_≡_};
+ghost use Rattle.bus.specs.Cycle.{isMemory, fetched, stored, accessRefusal, readAnswer, writeAnswer, writeContents, writeLatches, written};
+ghost use lib.ListN.{length};
+use crate::latch::Latches;
+use crate::target::OVERLAY_RAM;
+use crate::target::Place;
+use crate::target::RAM;
+use crate::target::reach;
+use machine::DONE;
+use machine::first_refusal;
+use machine::kind_refusal;
+use machine::memory_refusal;
+
+#[repr(C)]
+pub struct Access {
+    pub status: u8,
+    pub target: u8,
+    pub number: u16,
+    // The byte read; 0 for a write, and where the target holds none.
+    pub byte: u8,
+}
+
+#[repr(C)]
+pub struct Written {
+    pub status: u8,
+    pub target: u8,
+    pub number: u16,
+    pub byte: u8,
+    pub latches: Latches,
+}
+
+// A read changes nothing. Refusals 1, 7.
+pub fn read(memory: &[u8], latches: Latches, address: u16) -> Access
+    ensures { λ r. ⌜ r ≡ readAnswer (now (memory .entry)) latches address ⌝ }
+{
+    let status = access_refusal(memory.len(), latches);
+    if status != DONE {
+        return Access {
+            status,
+            target: 0,
+            number: 0,
+            byte: 0,
+        };
+    }
+    let reached = reach(latches, address);
+    let byte = fetch(memory, reached);
+    Access {
+        status,
+        target: reached.target,
+        number: reached.number,
+        byte,
+    }
+}
+
+// A write stores at most one byte, or sets one latch. Refusals 1, 7.
+pub fn write(memory: &mut [u8], latches: Latches, address: u16, byte: u8) -> Written
+    ensures { λ r. ⌜ r ≡ written (writeAnswer (now (memory .entry)) latches address) (writeLatches (now (memory .entry)) latches address byte) ⌝ }
+    ensures { λ r. ⌜ now (memory .exit) ≡ writeContents (now (memory .entry)) latches address byte ⌝ }
+{
+    let status = access_refusal(memory.len(), latches);
+    if status != DONE {
+        return Written {
+            status,
+            target: 0,
+            number: 0,
+            byte: 0,
+            latches,
+        };
+    }
+    let reached = reach(latches, address);
+    store(memory, reached, byte);
+    let after = latches.latch(address, byte);
+    Written {
+        status,
+        target: reached.target,
+        number: reached.number,
+        byte: 0,
+        latches: after,
+    }
+}
+
+fn access_refusal(size: usize, latches: Latches) -> u8
+    ensures { λ r. ⌜ r ≡ accessRefusal size latches ⌝ }
+{
+    let wrong_memory = memory_refusal(size);
+    let wrong_kind = kind_refusal(latches.kind);
+    first_refusal(wrong_memory, wrong_kind)
+}
+
+fn fetch(memory: &[u8], reached: Place) -> u8
+    requires { ⌜ length (now memory) ≡ 65536 ⌝ }
+    ensures { λ r. ⌜ r ≡ fetched (now (memory .entry)) reached ⌝ }
+{
+    if is_memory(reached) {
+        let at = reached.number as usize;
+        memory[at]
+    } else {
+        0
+    }
+}
+
+fn store(memory: &mut [u8], reached: Place, byte: u8)
+    requires { ⌜ length (now memory) ≡ 65536 ⌝ }
+    ensures { λ r. ⌜ now (memory .exit) ≡ stored (now (memory .entry)) reached byte ⌝ }
+{
+    if is_memory(reached) {
+        let at = reached.number as usize;
+        memory[at] = byte;
+    }
+}
+
+fn is_memory(reached: Place) -> bool
+    ensures { λ r. ⌜ r ≡ isMemory reached ⌝ }
+{
+    let target = reached.target;
+    match target {
+        RAM | OVERLAY_RAM => true,
+        _ => false,
+    }
+}
