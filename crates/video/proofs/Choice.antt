@@ -1,11 +1,14 @@
 -- Laws of a choice between two values, and of a pattern's six choices.
 -- Assumes nothing.
-use Prim.Native.Nat.{ℕ, _≤_}
-use mathlib.Core.Bool.{Bool, true, false, cond}
+use Prim.Native.Nat.{ℕ, _-_, _≤_}
+use mathlib.Core.Bool.{Bool, true, false, cond, _&&_}
 use mathlib.Core.List.{List, [], _∷_, map}
 use mathlib.Core.Path.{_≡_, refl, ap₂}
+use native.Mathlib.Omega.{arith}
+use lib.Dec.{leb}
 use Rattle.machine.specs.Bits.{bit}
-use Rattle.video.specs.Registers.{patternColour}
+use Rattle.video.specs.Registers.{patternColour, shownInk, complemented}
+use Rattle.video.specs.declared.registers.Registers.{Registers}
 
 -- what holds of both values holds of the chosen one
 pub cond-all : {A : Type 0} (P : A → Type 0) (b : Bool) (x y : A) → P x → P y → P (cond b x y)
@@ -25,3 +28,10 @@ pub pattern-map : (f : ℕ → ℕ) (ink paper pattern : ℕ) (weights : List �
 pattern-map f ink paper pattern [] = refl
 pattern-map f ink paper pattern (weight ∷ weights) =
     ap₂ _∷_ (cond-map f (bit weight pattern) ink paper) (pattern-map f ink paper pattern weights)
+
+pub shown-most : (registers : Registers) (counter : ℕ) → registers .ink ≤ 7 → registers .paper ≤ 7 → shownInk registers counter ≤ 7
+shown-most registers counter ink paper =
+    cond-most (bit 4 (registers .style) && leb 16 counter) (registers .paper) (registers .ink) paper ink
+
+pub complemented-most : (byte colour : ℕ) → colour ≤ 7 → complemented byte colour ≤ 7
+complemented-most byte colour h = cond-most (bit 128 byte) (7 - colour) colour (omega arith) h

@@ -8,3 +8,4 @@ pub mod Frames
 pub mod Lines
 pub mod Places
 pub mod Readings
+pub mod Words

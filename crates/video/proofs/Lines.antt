@@ -10,11 +10,9 @@ use lib.Seq.{getD-at}
 use borrow.Author.Count.{below-more}
 use Rattle.machine.specs.Lists.{gather}
 use Rattle.machine.proofs.Lists.{gather-next}
-use Rattle.video.specs.Cell.{Cell, cell, screenByte, registersAfter, pixels, screenAddresses, characterAddresses, modeLeft}
+use Rattle.video.specs.Cell.{Cell, cell, screenByte, pixels, screenAddresses, characterAddresses, modeLeft}
 use Rattle.video.specs.Line.{registersBefore, cellAt, firstCells, Sixes}
-use Rattle.video.specs.Registers.{isAttribute, latched}
-use Rattle.video.proofs.Cells.{Coloured, latched-coloured, cell-six}
-use Rattle.video.proofs.Choice.{cond-all}
+use Rattle.video.proofs.Cells.{Coloured, after-coloured, cell-six}
 use Rattle.video.proofs.Readings.{modeLeft-append, screens-one, characters-one, pixels-one, one-at-most}
 
 module _ (memory : List ℕ) (counter line mode : ℕ) where
@@ -28,12 +26,11 @@ module _ (memory : List ℕ) (counter line mode : ℕ) where
   registers-next n = ap (registersBefore memory line mode) (add-one n)
 
   pub registers-coloured : (n : ℕ) → Coloured (registersBefore memory line mode n)
-  unfolding registersBefore registersAfter
+  unfolding registersBefore
   registers-coloured zero = record { ink = omega arith; paper = omega arith }
   registers-coloured (suc n) =
       let before = registersBefore memory line mode n in
-      let byte = screenByte memory line n (before .mode) in
-      cond-all Coloured (isAttribute byte) (latched before byte) before (latched-coloured before byte (registers-coloured n)) (registers-coloured n)
+      after-coloured before (screenByte memory line n (before .mode)) (registers-coloured n)
 
   pub mode-after : (n : ℕ) → modeLeft mode (firstCells memory counter line mode n) ≡ registersBefore memory line mode n .mode
   unfolding firstCells gather modeLeft registersBefore cellAt cell

@@ -1,13 +1,12 @@
 -- Each cell of a frame stands in its regions and shows colours, and the mode in force is carried along.
 -- A frame's cells are gathered line by line and column by column, so a fact of each cell is a fact of the frame.
 -- Assumes nothing.
-use Prim.Native.Nat.{ℕ, zero, suc, _≤_, _<_, _%_, _-_}
-use mathlib.Core.Bool.{Bool, true, false, cond, _||_, _&&_}
+use Prim.Native.Nat.{ℕ, zero, suc, _≤_, _<_, _%_}
+use mathlib.Core.Bool.{Bool, true, false, cond, _||_}
 use mathlib.Core.List.{List, [], _∷_, _++_, Option·toList}
 use mathlib.Core.Option.{none, some}
 use mathlib.Core.Path.{_≡_, refl, sym, subst}
 use native.Mathlib.Omega.{arith}
-use lib.Dec.{leb}
 use Rattle.machine.specs.Bits.{bit}
 use Rattle.machine.specs.Lists.{gather, Each}
 use Rattle.machine.proofs.Each.{each-none, each-cons, each-gather, each-replicate, each-map, each-flatMap, each-flatten}
@@ -19,8 +18,8 @@ use Rattle.video.specs.Line.{registersBefore, cellAt, firstCells, lineCe
 use Rattle.video.specs.Region.{In, definitionRegion}
 use Rattle.video.specs.Registers.{isAttribute, shownInk, patternColour, patternWeights, complemented}
 use Rattle.video.proofs.Addresses.{screen-in-region, screen-below, definition-in-region, definition-below}
-use Rattle.video.proofs.Cells.{Coloured, latched-coloured}
-use Rattle.video.proofs.Choice.{cond-all, cond-most}
+use Rattle.video.proofs.Cells.{Coloured, after-coloured}
+use Rattle.video.proofs.Choice.{cond-all, cond-most, shown-most, complemented-most}
 use Rattle.video.proofs.Frames.{mode-down}
 use Rattle.video.proofs.Lines.{registers-coloured, mode-after}
 use Rattle.video.specs.declared.registers.Registers.{Registers}
@@ -68,17 +67,13 @@ used-below-overlay memory state =
     (character-each Low line before (screenByte memory line column (before .mode))
     (definition-below line (before .mode) (before .style) (screenByte memory line column (before .mode) % 128) (omega arith)))))
 
--- complementing keeps a colour a colour
-complemented-most : (byte colour : ℕ) → colour ≤ 7 → complemented byte colour ≤ 7
-complemented-most byte colour h = cond-most (bit 128 byte) (7 - colour) colour (omega arith) h
-
 colours-most : (memory : List ℕ) (counter line : ℕ) (before : Registers) (byte : ℕ) → Coloured before
     → Each (λ (pixel : ℕ). pixel ≤ 7) (coloursOf memory counter line before byte)
 unfolding coloursOf registersAfter
 colours-most memory counter line before byte h =
     let Small : ℕ → Type 0 = λ (pixel : ℕ). pixel ≤ 7 in
-    let after = cond-all Coloured (isAttribute byte) _ before (latched-coloured before byte h) h in
-    let ink = cond-most (bit 4 (before .style) && leb 16 counter) (before .paper) (before .ink) (h .paper) (h .ink) in
+    let after = after-coloured before byte h in
+    let ink = shown-most before counter (h .ink) (h .paper) in
     let shown = pattern memory byte (characterUsed line before byte) in
     each-map Small (complemented byte) _ (λ pixel m. complemented-most byte pixel
     (cond-all (Each Small) (isAttribute byte) _ _ (each-replicate Small 6 (after .paper))

@@ -8,6 +8,7 @@ use lib.ListN.{getD, length, replicate}
 use Rattle.video.specs.Address.{isBitmap, screenAddress, characterAddress}
 use Rattle.video.specs.Registers.{isAttribute, latched, shownInk, patternColours, complemented}
 use Rattle.video.specs.declared.cell.PaintedCell.{PaintedCell}
+use Rattle.video.specs.declared.cell.Shown.{Shown}
 use Rattle.video.specs.declared.registers.Registers.{Registers}
 
 -- the screen byte of a cell; the mode is the one in force, before the byte is read
@@ -56,6 +57,14 @@ cell memory counter line column before =
       character = characterUsed line before byte;
       colours = coloursOf memory counter line before byte;
       registers = registersAfter before byte;
+    }
+
+-- the pattern that the program paints with the registers that the cell leaves, 0 for an attribute, and the character bytes used
+abbrev pub shownBy : List ℕ → ℕ → Registers → ℕ → Shown
+shownBy memory line before byte =
+    record {
+      pattern = cond (isAttribute byte) 0 (pattern memory byte (characterUsed line before byte));
+      characters = length (Option·toList (characterUsed line before byte));
     }
 
 -- what the program hands back of a cell

@@ -1,6 +1,7 @@
 pub mod State
 pub mod Address
 pub mod Registers
+pub mod Pattern
 pub mod Cell
 pub mod Line
 pub mod Frame

@@ -5,6 +5,7 @@ mod bits;
 mod cell;
 mod frame;
 mod line;
+mod pattern;
 mod registers;
 mod state;
 

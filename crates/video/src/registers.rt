@@ -2,11 +2,12 @@
 ghost use mathlib.Core.Path.{_≡_};
 ghost use mathlib.Core.List.{map};
 ghost use Prim.Native.Nat.{_≤_, _<_};
-ghost use Rattle.video.specs.Registers.{lineStart, latched, shownInk, patternColour, patternColours, complemented};
-ghost use Rattle.video.specs.Registers.{isAttribute};
+ghost use Rattle.video.specs.Registers.{lineStart, isAttribute, latched, shownInk, patternColours, complemented};
+ghost use Rattle.video.specs.Cell.{registersAfter};
 use crate::bits::bit;
 use crate::bits::both;
 use crate::bits::choose;
+use crate::pattern::pattern_colours;
 
 const WHITE: u8 = 7;
 
@@ -53,6 +54,17 @@ impl Registers {
         }
     }
 
+    // The registers that a screen byte leaves: an attribute changes one.
+    pub(crate) fn after_byte(self, byte: u8) -> Self
+        ensures { λ r. ⌜ r ≡ registersAfter self byte ⌝ }
+    {
+        if is_attribute(byte) {
+            self.latch_attribute(byte)
+        } else {
+            self
+        }
+    }
+
     pub(crate) fn latch_attribute(self, byte: u8) -> Self
         ensures { λ r. ⌜ r ≡ latched self byte ⌝ }
     {
@@ -70,8 +82,8 @@ impl Registers {
 
     // The six colours of a pattern: flash first, inverse last.
     pub(crate) fn paint_colours(self, pattern: u8, byte: u8, counter: u8) -> [u8; 6]
-        requires { ⌜ self .ink ≤ 7 ⌝ }
-        requires { ⌜ self .paper ≤ 7 ⌝ }
+        requires { ⌜ (self .ink ≤ 7) × (self .paper ≤ 7) ⌝ }
+        requires { ⌜ pattern < 64 ⌝ }
         ensures { λ r. ⌜ r ≡ map (complemented byte) (patternColours (shownInk self counter) (self .paper) pattern) ⌝ }
     {
         let ink = complement(byte, self.shown_ink(counter));
@@ -95,24 +107,4 @@ fn complement(byte: u8, colour: u8) -> u8
     ensures { λ r. ⌜ r ≡ complemented byte colour ⌝ }
 {
     choose(bit(128, byte), WHITE - colour, colour)
-}
-
-fn pattern_colours(pattern: u8, ink: u8, paper: u8) -> [u8; 6]
-    ensures { λ r. ⌜ r ≡ patternColours ink paper pattern ⌝ }
-{
-    [
-        pixel(32, pattern, ink, paper),
-        pixel(16, pattern, ink, paper),
-        pixel(8, pattern, ink, paper),
-        pixel(4, pattern, ink, paper),
-        pixel(2, pattern, ink, paper),
-        pixel(1, pattern, ink, paper),
-    ]
-}
-
-fn pixel(weight: u8, pattern: u8, ink: u8, paper: u8) -> u8
-    requires { ⌜ 0 < weight ⌝ }
-    ensures { λ r. ⌜ r ≡ patternColour ink paper pattern weight ⌝ }
-{
-    choose(bit(weight, pattern), ink, paper)
 }

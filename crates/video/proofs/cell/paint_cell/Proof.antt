@@ -1,14 +1,14 @@
--- `video::cell::paint_cell` meets its contract: its three returns are the three cases of a cell.
--- Both reads are within the image, since every used address is below C000. Assumes nothing.
-use Prim.Native.Nat.{ℕ, _%_}
-use mathlib.Core.Path.{_≡_, sym, ap, _∙_}
+-- `video::cell::paint_cell` meets its contract: a cell is its pattern, painted with the registers that it leaves.
+-- Assumes nothing.
+use Prim.Native.Nat.{ℕ}
+use mathlib.Core.Path.{_≡_, ap}
 use native.Mathlib.Omega.{arith}
 use lib.ListN.{getD}
 use denote.Ref.{now}
 use borrow.Author.Needs.{needs}
 use Rattle.video.specs.Cell.{screenByte}
-use Rattle.video.proofs.Addresses.{screen-below, definition-below}
-use Rattle.video.proofs.Cells.{attribute-cell, bitmap-cell, character-cell, latched-coloured}
+use Rattle.video.proofs.Addresses.{screen-below}
+use Rattle.video.proofs.Cells.{after-coloured, shown-small, cell-painted}
 use Rattle.video.specs.declared.registers.Registers.{Registers}
 use Rattle.video.proofs.cell.paint_cell.Statement.{statement}
 use Rattle.video.proofs.cell.paint_cell.Tie as tie
@@ -35,78 +35,28 @@ shared-slice-read-byte c =
       screen-below (a .line) (a .column) (a .before .mode) (start .pre .1 .0 .0) (start .pre .1 .0 .1),
     )
 
-is-attribute-requires : tie.Need-is-attribute-requires
-is-attribute-requires c κs = search needs
+after-byte-requires : tie.Need-after-byte-requires
+after-byte-requires c κs = search needs
 
-latch-attribute-requires : tie.Need-latch-attribute-requires
-latch-attribute-requires c κs = search needs
+pattern-of-requires : tie.Need-pattern-of-requires
+pattern-of-requires c κs = search needs
 
 paint-colours-requires : tie.Need-paint-colours-requires
 paint-colours-requires c κs =
-    let k = c .before .before .before in
-    let pre = k .before .before .before .pre .1 .1 in
-    let known = latched-coloured (k .before .before .before .args .before) (byte k) (record { ink = pre .0; paper = pre .1 }) in
-    let after = c .latch-attribute .ensures in
-    omega (
-      arith,
-      known,
-      ap (λ (r : Registers). r .ink) after,
-      ap (λ (r : Registers). r .paper) after,
-    )
+    let k = c .before .before in
+    let start = k .before .before .before in
+    let pre = start .pre .1 .1 in
+    let known = after-coloured (start .args .before) (byte k) (record { ink = pre .0; paper = pre .1 }) in
+    let after = c .before .after-byte .ensures in
+    let small = shown-small (now (start .args .memory)) (start .args .line) (start .args .before) (byte k) in
+    (omega (arith, known, ap (λ (r : Registers). r .ink) after, ap (λ (r : Registers). r .paper) after), rw (c .pattern-of .ensures) small)
 
 returns : tie.Need-returns
 returns c =
-    let k = c .before .before .before .before in
+    let k = c .before .before .before in
     let a = k .before .before .before .args in
-    rw (c .paint-colours .ensures, c .before .latch-attribute .ensures)
-    (attribute-cell (now (a .memory)) (a .counter) (a .line) (a .column) (a .before) (byte k) (read k)
-    (sym (c .before .before .before .is-attribute .ensures) ∙ c .before .before .if1 .taken))
-
-is-bitmap-requires : tie.Need-is-bitmap-requires
-is-bitmap-requires c κs = search needs
-
-paint-colours-requires-2 : tie.Need-paint-colours-requires-2
-paint-colours-requires-2 c κs = search needs
-
-returns-2 : tie.Need-returns-2
-returns-2 c =
-    let k = c .before .before .before .before .before in
-    let a = k .before .before .before .args in
-    rw (c .paint-colours2 .ensures)
-    (bitmap-cell (now (a .memory)) (a .counter) (a .line) (a .column) (a .before) (byte k) (read k)
-    (sym (c .before .before .before .before .is-attribute .ensures) ∙ c .before .before .before .if1 .left)
-    (sym (c .before .before .is-bitmap .ensures) ∙ c .before .if2 .taken))
-
-cast-code : tie.Need-cast-code
-cast-code c = search needs
-
-character-byte-address-requires : tie.Need-character-byte-address-requires
-character-byte-address-requires c κs = search needs
-
-shared-slice-read-definition : tie.Need-shared-slice-read-definition
-shared-slice-read-definition c =
-    let k = c .before .before .before .before .before .before in
-    let a = k .before .before .before .args in
-    omega (
-      arith,
-      c .before .character-byte-address .ensures,
-      definition-below (a .line) (a .before .mode) (a .before .style) (byte k % 128) (omega arith)
-          (sym (c .before .before .before .is-bitmap .ensures) ∙ c .before .before .if2 .left),
-    )
-
-paint-colours-requires-3 : tie.Need-paint-colours-requires-3
-paint-colours-requires-3 c κs = search needs
-
-returns-3 : tie.Need-returns-3
-returns-3 c =
-    let k = c .before .before .before .before .before .before .before in
-    let a = k .before .before .before .args in
-    rw (c .paint-colours3 .ensures)
-    (character-cell (now (a .memory)) (a .counter) (a .line) (a .column) (a .before) (byte k) (read k)
-    (getD (now (a .memory)) (c .before .before .character-byte-address .result) 0)
-    (sym (c .before .before .before .before .before .before .is-attribute .ensures) ∙ c .before .before .before .before .before .if1 .left)
-    (sym (c .before .before .before .before .is-bitmap .ensures) ∙ c .before .before .before .if2 .left)
-    (ap (λ (address : ℕ). getD (now (a .memory)) address 0) (c .before .before .character-byte-address .ensures)))
+    rw (c .paint-colours .ensures, c .before .pattern-of .ensures, c .before .before .after-byte .ensures)
+    (cell-painted (now (a .memory)) (a .counter) (a .line) (a .column) (a .before) (byte k) (read k))
 
 pub paint-cell-spec : {M : Type 1} → statement M
 paint-cell-spec =
@@ -114,15 +64,7 @@ paint-cell-spec =
     (tie.spec
     screen-byte-address-requires
     shared-slice-read-byte
-    is-attribute-requires
-    latch-attribute-requires
+    after-byte-requires
+    pattern-of-requires
     paint-colours-requires
-    returns
-    is-bitmap-requires
-    paint-colours-requires-2
-    returns-2
-    cast-code
-    character-byte-address-requires
-    shared-slice-read-definition
-    paint-colours-requires-3
-    returns-3)
+    returns)

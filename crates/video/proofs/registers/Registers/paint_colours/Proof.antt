@@ -1,12 +1,9 @@
 -- `video::registers::Registers::paint_colours` meets its contract: complementing ink and paper is complementing each pixel.
 -- Assumes nothing.
-use mathlib.Core.Bool.{_&&_}
 use native.Mathlib.Omega.{arith}
-use lib.Dec.{leb}
 use borrow.Author.Needs.{needs}
-use Rattle.machine.specs.Bits.{bit}
 use Rattle.video.specs.Registers.{complemented, shownInk, patternWeights}
-use Rattle.video.proofs.Choice.{cond-most, pattern-map}
+use Rattle.video.proofs.Choice.{shown-most, complemented-most, pattern-map}
 use Rattle.video.proofs.registers.Registers.paint_colours.Statement.{statement}
 use Rattle.video.proofs.registers.Registers.paint_colours.Tie as tie
 
@@ -15,15 +12,21 @@ shown-ink-requires c κs = search needs
 
 complement-requires : tie.Need-complement-requires
 complement-requires c κs =
-    let registers = c .before .args .self in
-    let known = cond-most (bit 4 (registers .style) && leb 16 (c .before .args .counter)) (registers .paper) (registers .ink) {most = 7} (search needs) (search needs) in
-    omega (arith, known, c .shown-ink .ensures)
+    let start = c .before in
+    omega (arith, c .shown-ink .ensures, shown-most (start .args .self) (start .args .counter) (start .pre .0 .0) (start .pre .0 .1))
 
 complement-requires-2 : tie.Need-complement-requires-2
 complement-requires-2 c κs = search needs
 
 pattern-colours-requires : tie.Need-pattern-colours-requires
-pattern-colours-requires c κs = search needs
+pattern-colours-requires c κs =
+    let start = c .before .before .before in
+    let a = start .args in
+    let ink = complemented-most (a .byte) (shownInk (a .self) (a .counter)) (shown-most (a .self) (a .counter) (start .pre .0 .0) (start .pre .0 .1)) in
+    let paper = complemented-most (a .byte) (a .self .paper) (start .pre .0 .1) in (
+      start .pre .1,
+      (rw (c .before .complement .ensures, c .before .before .shown-ink .ensures) ink, rw (c .complement2 .ensures) paper),
+    )
 
 returns : tie.Need-returns
 returns c =
