@@ -1,5 +1,6 @@
 // The bus half: which target an address reaches, and what a read or a write does there.
 mod cycle;
+mod in_place;
 mod latch;
 mod target;
 
@@ -7,6 +8,7 @@ pub use cycle::Access;
 pub use cycle::Written;
 pub use cycle::read;
 pub use cycle::write;
+pub use in_place::write_in_place;
 pub use latch::JASMIN;
 pub use latch::Latches;
 pub use latch::MICRODISC;

@@ -1,0 +1,48 @@
+-- The table of figures holds: each by computing with the rules' definitions, for every memory that holds the bytes named.
+-- Assumes nothing.
+use Prim.Native.Nat.{ℕ}
+use mathlib.Core.Path.{_≡_, refl, sym, ap, _∙_}
+use mathlib.Core.List.{List, [], _∷_}
+use native.Mathlib.Omega.{arith}
+use borrow.Author.Tests.{lt-ltb}
+use Rattle.video.specs.Registers.{latched}
+use Rattle.video.specs.Cell.{cell, screenByte, registersAfter, characterUsed, coloursOf}
+use Rattle.video.specs.Line.{registersBefore, cellAt}
+use Rattle.video.proofs.Lines.{registers-next}
+use Rattle.bus.specs.Target.{place}
+use Rattle.reference.specs.Figures.{Figures, Text, Hires, Uses, FirstShows, SecondShows, Anywhere, InBitmap}
+
+mode-change : (memory : List ℕ) (counter mode : ℕ) → Hires (registersBefore memory 0 mode 5 .mode)
+    → screenByte memory 0 5 (registersBefore memory 0 mode 5 .mode) ≡ 0x1A
+    → (cellAt memory counter 0 mode 6 .screen ≡ 0xBB86) × (cellAt memory counter 0 mode 6 .mode ≡ 2)
+unfolding cellAt cell registersAfter latched
+mode-change memory counter mode hires byte =
+    let next : registersBefore memory 0 mode 6 .mode ≡ 2 = rw (registers-next memory counter 0 mode 5) (simp byte) in
+    (rw next, next)
+
+pub figures : Figures
+unfolding cellAt cell characterUsed coloursOf registersAfter registersBefore latched place
+figures =
+    record {
+      text-first = λ mode text. simp text;
+      text-last = λ mode text. refl;
+      hires-last = λ mode hires. simp hires;
+      hires-bottom = λ mode hires. refl;
+      code-65-line-3 = λ memory counter mode column text style code. simp (code, text, style);
+      code-65-double-line-3 = λ memory counter mode column text style code. simp (code, text, style);
+      code-65-double-line-11 = λ memory counter mode column text style code. simp (code, text, style);
+      code-32-alternate-line-200 = λ memory counter mode column hires style code. simp (code, hires, style);
+      byte-11 = λ memory counter line mode any byte. simp byte;
+      byte-91 = λ memory counter line mode any byte. simp byte;
+      byte-61 = λ memory counter line mode bitmap byte. simp (byte, lt-ltb line 200 (bitmap .0), bitmap .1);
+      byte-E1 = λ memory counter line mode bitmap byte. simp (byte, lt-ltb line 200 (bitmap .0), bitmap .1);
+      byte-20 = λ memory counter line mode bitmap byte. simp (byte, lt-ltb line 200 (bitmap .0), bitmap .1);
+      byte-20-is-a-picture = refl;
+      flash-shown = λ memory line mode bitmap first second. simp (first, second, lt-ltb line 200 (bitmap .0), bitmap .1);
+      flash-hidden = λ memory line mode bitmap first second. simp (first, second, lt-ltb line 200 (bitmap .0), bitmap .1);
+      flash-hidden-inverse = λ memory line mode bitmap first second. simp (first, second, lt-ltb line 200 (bitmap .0), bitmap .1);
+      mode-change = mode-change;
+      microdisc-FD = λ second. refl;
+      microdisc-00 = λ second. refl;
+      microdisc-02 = λ second. refl;
+    }

@@ -1,0 +1,77 @@
+-- A list of bus accesses: what it leaves by the contracts' definitions, and where it stores by the decode rules.
+-- Assumes nothing.
+use Prim.Native.Nat.{ℕ}
+use mathlib.Core.Bool.{cond}
+use mathlib.Core.List.{List, [], _∷_, _++_}
+use mathlib.Core.Option.{Option, none, some}
+use lib.Dec.{ltb}
+use Rattle.bus.specs.Latch.{latched}
+use Rattle.bus.specs.Target.{place}
+use Rattle.bus.specs.Cycle.{isMemory, writeContents, writeLatches}
+use Rattle.bus.specs.declared.latch.Latches.{Latches}
+
+-- a read at an address; a write of a byte, by value or with the latches in place
+pub data Action : Type 0 where
+  read : ℕ → Action
+  write writeInPlace : ℕ → ℕ → Action
+
+-- one access of the list: it takes the latches as the one before left them, or brings its own
+pub record Step : Type 0 where
+  pub brings : Option Latches
+  pub action : Action
+
+abbrev pub taken : Option Latches → Latches → Latches
+taken none left = left
+taken (some brought) left = brought
+
+-- the memory and the latches as they go from access to access
+pub record Board : Type 0 where
+  pub memory : List ℕ
+  pub latches : Latches
+
+-- the board after an access, by the definitions that the contracts of read, write and write_in_place cite
+abbrev pub acted : Action → Board → Board
+acted (read address) board = board
+acted (write address byte) board =
+    record {
+      memory = writeContents (board .memory) (board .latches) address byte;
+      latches = writeLatches (board .memory) (board .latches) address byte;
+    }
+acted (writeInPlace address byte) board =
+    record {
+      memory = writeContents (board .memory) (board .latches) address byte;
+      latches = writeLatches (board .memory) (board .latches) address byte;
+    }
+
+-- the board after the whole list
+abbrev pub boardAfter : Board → List Step → Board
+boardAfter board [] = board
+boardAfter board (step ∷ steps) =
+    boardAfter (acted (step .action) (record { memory = board .memory; latches = taken (step .brings) (board .latches) })) steps
+
+-- where a write stores, by the decode rules: nowhere if its kind is refused or its target is neither 0 nor 4
+abbrev pub writeStores : Latches → ℕ → List ℕ
+writeStores latches address =
+    cond (ltb 2 (latches .kind)) [] (cond (isMemory (place latches address)) (place latches address .number ∷ []) [])
+
+-- where an access stores (document 01: stores)
+abbrev pub actionStores : Latches → Action → List ℕ
+actionStores latches (read address) = []
+actionStores latches (write address byte) = writeStores latches address
+actionStores latches (writeInPlace address byte) = writeStores latches address
+
+-- the latches that the rules give after a write: as they were if its kind is refused
+abbrev pub writeLatched : Latches → ℕ → ℕ → Latches
+writeLatched latches address byte = cond (ltb 2 (latches .kind)) latches (latched latches address byte)
+
+abbrev pub actionLatches : Latches → Action → Latches
+actionLatches latches (read address) = latches
+actionLatches latches (write address byte) = writeLatched latches address byte
+actionLatches latches (writeInPlace address byte) = writeLatched latches address byte
+
+-- every address at which the list stores
+abbrev pub stores : Latches → List Step → List ℕ
+stores left [] = []
+stores left (step ∷ steps) =
+    let latches = taken (step .brings) left in
+    actionStores latches (step .action) ++ stores (actionLatches latches (step .action)) steps

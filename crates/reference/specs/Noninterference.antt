@@ -1,0 +1,47 @@
+-- Noninterference (demand 3): what a frame shows depends on its used addresses alone, these lie in their regions, and no list
+-- of bus accesses that stores at none of them changes it. One statement in three parts, over the definitions that the contracts
+-- of paint_frame, read, write and write_in_place cite.
+-- Assumes nothing.
+use Prim.Native.Nat.{ℕ, _≤_}
+use mathlib.Core.Path.{_≡_}
+use mathlib.Core.List.{List}
+use lib.ListN.{length}
+use Rattle.machine.specs.Lists.{Each}
+use Rattle.machine.specs.Refusal.{imageLength}
+use Rattle.video.specs.State.{nextCounter}
+use Rattle.video.specs.Cell.{pixels, used}
+use Rattle.video.specs.Frame.{frameCells}
+use Rattle.video.specs.Answer.{painted, frameRefusal, frameAnswer, frameContents}
+use Rattle.video.specs.Laws.{Agree, InForce, Placed}
+use Rattle.video.specs.declared.state.State.{State}
+use Rattle.bus.specs.declared.latch.Latches.{Latches}
+use Rattle.reference.specs.Accesses.{Step, boardAfter, stores}
+
+-- two images show the same from a start state: the used addresses in painting order, all pixels, the state afterwards and both
+-- counts; and so does the program, for any two lent frames, where neither painting is refused
+pub record ShowSame (first second : List ℕ) (state : State) : Type 0 where
+  pub addresses : used (frameCells second state) ≡ used (frameCells first state)
+  pub picture : pixels (frameCells second state) ≡ pixels (frameCells first state)
+  pub answer : painted (nextCounter (state .counter)) (state .mode) (frameCells second state)
+      ≡ painted (nextCounter (state .counter)) (state .mode) (frameCells first state)
+  pub program : (lent other : List ℕ) → frameRefusal first state lent ≡ 0 → frameRefusal second state other ≡ 0
+      → (frameContents second state other ≡ frameContents first state lent) × (frameAnswer second state other ≡ frameAnswer first state lent)
+
+-- no address is in both lists
+abbrev pub Apart : List ℕ → List ℕ → Type 0
+Apart xs ys = Each (λ (x : ℕ). Each (λ (y : ℕ). x ≡ y → ⊥) ys) xs
+
+-- the three parts, for an image and a start state
+pub record Noninterference (first : List ℕ) (state : State) : Type 0 where
+  -- an image that agrees at every used address shows the same
+  pub images : (second : List ℕ) → length second ≡ imageLength → Agree first second (used (frameCells first state)) → ShowSame first second state
+  -- every cell uses addresses in the regions of its line and the mode in force there
+  pub regions : InForce (state .mode) (frameCells first state) × Each Placed (frameCells first state)
+  -- a list of accesses that stores at no used address leaves a memory that shows the same
+  pub accesses : (latches : Latches) (steps : List Step) → Apart (used (frameCells first state)) (stores latches steps)
+      → ShowSame first (boardAfter (record { memory = first; latches = latches }) steps .memory) state
+
+-- for every image of 65,536 bytes and every start state within its limits
+abbrev pub NoninterferenceHolds : Type 0
+NoninterferenceHolds =
+    (first : List ℕ) (state : State) → length first ≡ imageLength → state .mode ≤ 7 → state .counter ≤ 31 → Noninterference first state

@@ -1,0 +1,97 @@
+// The entry points of both halves under their C names. Each has the contract of the function that it calls.
+ghost use mathlib.Core.Path.{_≡_};
+ghost use Rattle.video.specs.State.{freshState};
+ghost use Rattle.video.specs.Answer.{addressAnswer, lineAnswer, lineContents, frameAnswer, frameContents};
+ghost use Rattle.bus.specs.Cycle.{readAnswer, writeAnswer, writeContents, writeLatches, written};
+ghost use Rattle.bus.specs.Latch.{freshLatches};
+ghost use Rattle.bus.specs.Target.{decodeAnswer};
+use bus::Access;
+use bus::Decoded;
+use bus::Latches;
+use bus::Written;
+use video::Painted;
+use video::ScreenAddress;
+use video::State;
+
+#[no_mangle]
+pub extern "C" fn tropfenpfad_fresh_state() -> State
+    ensures { λ r. ⌜ r ≡ freshState ⌝ }
+{
+    video::fresh_state()
+}
+
+#[no_mangle]
+pub extern "C" fn tropfenpfad_screen_address(line: usize, column: usize, mode: u8) -> ScreenAddress
+    ensures { λ r. ⌜ r ≡ addressAnswer line column mode ⌝ }
+{
+    video::screen_address(line, column, mode)
+}
+
+#[no_mangle]
+pub extern "C" fn tropfenpfad_paint_line(
+    memory: &[u8],
+    state: State,
+    line: usize,
+    output: &mut [u8],
+) -> Painted
+    ensures { λ r. ⌜ r ≡ lineAnswer (now (memory .entry)) state line (now (output .entry)) ⌝ }
+    ensures { λ r. ⌜ now (output .exit) ≡ lineContents (now (memory .entry)) state line (now (output .entry)) ⌝ }
+{
+    video::paint_line(memory, state, line, output)
+}
+
+#[no_mangle]
+pub extern "C" fn tropfenpfad_paint_frame(memory: &[u8], state: State, frame: &mut [u8]) -> Painted
+    ensures { λ r. ⌜ r ≡ frameAnswer (now (memory .entry)) state (now (frame .entry)) ⌝ }
+    ensures { λ r. ⌜ now (frame .exit) ≡ frameContents (now (memory .entry)) state (now (frame .entry)) ⌝ }
+{
+    video::paint_frame(memory, state, frame)
+}
+
+#[no_mangle]
+pub extern "C" fn tropfenpfad_fresh_latches(kind: u8) -> Latches
+    ensures { λ r. ⌜ r ≡ freshLatches kind ⌝ }
+{
+    bus::fresh_latches(kind)
+}
+
+#[no_mangle]
+pub extern "C" fn tropfenpfad_decode(latches: Latches, address: u16) -> Decoded
+    ensures { λ r. ⌜ r ≡ decodeAnswer latches address ⌝ }
+{
+    bus::decode(latches, address)
+}
+
+#[no_mangle]
+pub extern "C" fn tropfenpfad_read(memory: &[u8], latches: Latches, address: u16) -> Access
+    ensures { λ r. ⌜ r ≡ readAnswer (now (memory .entry)) latches address ⌝ }
+{
+    bus::read(memory, latches, address)
+}
+
+#[no_mangle]
+pub extern "C" fn tropfenpfad_write(
+    memory: &mut [u8],
+    latches: Latches,
+    address: u16,
+    byte: u8,
+) -> Written
+    ensures { λ r. ⌜ r ≡ written (writeAnswer (now (memory .entry)) latches address) (writeLatches (now (memory .entry)) latches address byte) ⌝ }
+    ensures { λ r. ⌜ now (memory .exit) ≡ writeContents (now (memory .entry)) latches address byte ⌝ }
+{
+    bus::write(memory, latches, address, byte)
+}
+
+#[no_mangle]
+pub extern "C" fn tropfenpfad_write_in_place(
+    memory: &mut [u8],
+    latches: &mut Latches,
+    address: u16,
+    byte: u8,
+) -> Access
+    ensures { λ r. ⌜ r ≡ writeAnswer (now (memory .entry)) (now (latches .entry)) address ⌝ }
+    ensures { λ r. ⌜ now (memory .exit) ≡ writeContents (now (memory .entry)) (now (latches .entry)) address byte ⌝ }
+    ensures { λ r. ⌜ now (latches .exit) ≡ writeLatches (now (memory .entry)) (now (latches .entry)) address byte ⌝ }
+{
+    bus::write_in_place(memory, latches, address, byte)
+}

@@ -1,0 +1,2 @@
+// Both halves together: the proved figures, the noninterference theorem, and the entry points exported to C.
+mod exports;
