@@ -9,10 +9,10 @@ use Rattle.machine.specs.Refusal.{memoryCheck, kindCheck}
 use Rattle.machine.proofs.Refusals.{done, refused, passed}
 use Rattle.bus.specs.Cycle.{fetched, stored, accessRefusal, accessAnswer, readAnswer, writeAnswer, writeContents, writeLatches, written}
 use Rattle.bus.specs.Latch.{latched}
-use Rattle.bus.specs.Target.{place}
+use Rattle.bus.specs.Place.{place}
 use Rattle.bus.specs.declared.cycle.Written.{Written}
 use Rattle.bus.specs.declared.latch.Latches.{Latches}
-use Rattle.bus.specs.declared.target.Place.{Place}
+use Rattle.bus.specs.declared.place.Place.{Place}
 
 -- where no refusal applies, the memory is an image and the kind is one of the three
 pub accepted-access : (size : ℕ) (latches : Latches) → accessRefusal size latches ≡ 0 → (size ≡ 65536) × (latches .kind ≤ 2)

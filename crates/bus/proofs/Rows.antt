@@ -6,7 +6,7 @@ use mathlib.Core.Path.{_≡_}
 use native.Mathlib.Omega.{arith}
 use borrow.Author.Tests.{le-leb, lt-leb, eq-eqb, ne-eqb}
 use Rattle.machine.specs.Bits.{bit}
-use Rattle.bus.specs.Target.{ram, via, controller, basicRom, overlayRam, bootEprom, unassigned, place, pageThree, upper}
+use Rattle.bus.specs.Place.{ram, via, controller, basicRom, overlayRam, bootEprom, unassigned, place, pageThree, upper}
 use Rattle.bus.specs.declared.latch.Latches.{Latches}
 
 module _ (latches : Latches) (a : ℕ) where

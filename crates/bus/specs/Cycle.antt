@@ -7,11 +7,11 @@ use lib.Dec.{eqb}
 use lib.ListN.{getD, length, set}
 use Rattle.machine.specs.Refusal.{refusal, ifDone, memoryCheck, kindCheck}
 use Rattle.bus.specs.Latch.{latched}
-use Rattle.bus.specs.Target.{place}
+use Rattle.bus.specs.Place.{place}
 use Rattle.bus.specs.declared.cycle.Access.{Access}
 use Rattle.bus.specs.declared.cycle.Written.{Written}
 use Rattle.bus.specs.declared.latch.Latches.{Latches}
-use Rattle.bus.specs.declared.target.Place.{Place}
+use Rattle.bus.specs.declared.place.Place.{Place}
 
 -- targets 0 and 4 hold bytes of the memory
 abbrev pub isMemory : Place → Bool

@@ -1,3 +1,3 @@
 pub mod Latch
-pub mod Target
+pub mod Place
 pub mod Cycle

@@ -1,4 +1,7 @@
-// The figures of document 01 that are run: each line names a call, and what it answered.
+// The figures of document 01 that are run, the decode of every address, and digests of generated frames, a line each.
+mod decoding;
+mod generated;
+mod mixing;
 mod painting;
 mod report;
 
@@ -6,4 +9,6 @@ fn main() {
     painting::lines();
     painting::counters();
     painting::memories();
+    decoding::settings();
+    generated::frames();
 }

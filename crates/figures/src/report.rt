@@ -13,3 +13,8 @@ pub(crate) fn field(name: &[u8], n: u64) {
 pub(crate) fn end() {
     text(b"\n");
 }
+
+pub(crate) fn digest(n: u64) {
+    text(b" digest ");
+    io::print_hex(STDOUT_FILENO, n, 16);
+}

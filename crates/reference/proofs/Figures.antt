@@ -9,7 +9,7 @@ use Rattle.video.specs.Registers.{latched}
 use Rattle.video.specs.Cell.{cell, screenByte, registersAfter, characterUsed, coloursOf}
 use Rattle.video.specs.Line.{registersBefore, cellAt}
 use Rattle.video.proofs.Lines.{registers-next}
-use Rattle.bus.specs.Target.{place}
+use Rattle.bus.specs.Place.{place}
 use Rattle.reference.specs.Figures.{Figures, Text, Hires, Uses, FirstShows, SecondShows, Anywhere, InBitmap}
 
 mode-change : (memory : List ℕ) (counter mode : ℕ) → Hires (registersBefore memory 0 mode 5 .mode)

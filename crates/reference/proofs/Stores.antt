@@ -13,7 +13,7 @@ use Rattle.machine.specs.Lists.{Each}
 use Rattle.machine.specs.Refusal.{ifDone, refusal}
 use Rattle.machine.proofs.Each.{each-head, each-left, each-right}
 use Rattle.bus.specs.Latch.{latched}
-use Rattle.bus.specs.Target.{place}
+use Rattle.bus.specs.Place.{place}
 use Rattle.bus.specs.Cycle.{isMemory, stored, accessRefusal, writeContents, writeLatches}
 use Rattle.bus.specs.declared.latch.Latches.{Latches}
 use Rattle.reference.specs.Accesses.{Action, read, write, writeInPlace, Step, Board, taken, acted, boardAfter, writeStores, actionStores, writeLatched, actionLatches, stores}

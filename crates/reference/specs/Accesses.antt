@@ -6,7 +6,7 @@ use mathlib.Core.List.{List, [], _∷_, _++_}
 use mathlib.Core.Option.{Option, none, some}
 use lib.Dec.{ltb}
 use Rattle.bus.specs.Latch.{latched}
-use Rattle.bus.specs.Target.{place}
+use Rattle.bus.specs.Place.{place}
 use Rattle.bus.specs.Cycle.{isMemory, writeContents, writeLatches}
 use Rattle.bus.specs.declared.latch.Latches.{Latches}
 

@@ -11,7 +11,7 @@ use Rattle.video.specs.Address.{isHires, screenAddress}
 use Rattle.video.specs.Registers.{isAttribute}
 use Rattle.video.specs.Cell.{screenByte}
 use Rattle.video.specs.Line.{registersBefore, cellAt}
-use Rattle.bus.specs.Target.{place, basicRom, overlayRam, bootEprom}
+use Rattle.bus.specs.Place.{place, basicRom, overlayRam, bootEprom}
 
 -- the mode is text
 abbrev pub Text : ℕ → Type 0

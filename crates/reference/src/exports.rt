@@ -4,7 +4,7 @@ ghost use Rattle.video.specs.State.{freshState};
 ghost use Rattle.video.specs.Answer.{addressAnswer, lineAnswer, lineContents, frameAnswer, frameContents};
 ghost use Rattle.bus.specs.Cycle.{readAnswer, writeAnswer, writeContents, writeLatches, written};
 ghost use Rattle.bus.specs.Latch.{freshLatches};
-ghost use Rattle.bus.specs.Target.{decodeAnswer};
+ghost use Rattle.bus.specs.Place.{decodeAnswer};
 use bus::Access;
 use bus::Decoded;
 use bus::Latches;

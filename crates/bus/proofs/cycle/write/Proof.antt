@@ -6,7 +6,7 @@ use denote.Ref.{now}
 use borrow.Author.Needs.{needs}
 use Rattle.bus.specs.Cycle.{stored}
 use Rattle.bus.proofs.Cycles.{accepted-access, write-refused, write-done}
-use Rattle.bus.specs.declared.target.Place.{Place}
+use Rattle.bus.specs.declared.place.Place.{Place}
 use Rattle.bus.proofs.cycle.write.Statement.{statement}
 use Rattle.bus.proofs.cycle.write.Tie as tie
 

@@ -2,7 +2,7 @@
 ghost use mathlib.Core.Path.{_≡_};
 ghost use Prim.Native.Nat.{_≤_};
 ghost use Rattle.machine.specs.Bits.{bit};
-ghost use Rattle.bus.specs.Target.{ram, via, controller, basicRom, overlayRam, bootEprom, unassigned, upper, place, decodeAnswer};
+ghost use Rattle.bus.specs.Place.{ram, via, controller, basicRom, overlayRam, bootEprom, unassigned, upper, place, decodeAnswer};
 use crate::latch::JASMIN;
 use crate::latch::Latches;
 use crate::latch::MICRODISC;

@@ -7,8 +7,8 @@ use lib.Dec.{eqb, leb}
 use Rattle.machine.specs.Bits.{bit}
 use Rattle.machine.specs.Refusal.{refusal, ifDone, kindCheck}
 use Rattle.bus.specs.declared.latch.Latches.{Latches}
-use Rattle.bus.specs.declared.target.Decoded.{Decoded}
-use Rattle.bus.specs.declared.target.Place.{Place}
+use Rattle.bus.specs.declared.place.Decoded.{Decoded}
+use Rattle.bus.specs.declared.place.Place.{Place}
 
 -- target 0, RAM: the number is the address
 abbrev pub ram : ℕ → Place

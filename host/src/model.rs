@@ -1,0 +1,249 @@
+//! A second painter, decoder and bus that share no code with the library.
+//!
+//! The shape is another one on purpose: what a screen byte does is looked up in a table, the four
+//! registers are one word, six pixels are six lanes of another, decode goes through a map of
+//! pages, and refusals are bits of which the lowest counts. The answers are the C interface's
+//! records, so that whole answers can be compared, refused ones included.
+
+mod decoder;
+mod painter;
+
+use crate::ffi::{Access, Address, Decoded, Latches, Painted, State, Written};
+use crate::{COLUMNS, FRAME_LENGTH, LINES, LINE_LENGTH, MEMORY_LENGTH};
+use decoder::Decoder;
+use painter::Painter;
+
+/// The RAM image, once its length is known.
+type Memory = [u8; MEMORY_LENGTH];
+
+/// The model, with its tables.
+pub struct Model {
+    painter: Painter,
+    decoder: Decoder,
+}
+
+impl Default for Model {
+    fn default() -> Self {
+        Self::new()
+    }
+}
+
+impl Model {
+    /// Builds the tables.
+    pub fn new() -> Self {
+        Model {
+            painter: Painter::new(),
+            decoder: Decoder::new(),
+        }
+    }
+
+    /// Mode 2, counter 0.
+    pub fn fresh_state(&self) -> State {
+        State {
+            mode: 2,
+            counter: 0,
+        }
+    }
+
+    /// The kind as given, both latch bytes 0.
+    pub fn fresh_latches(&self, kind: u8) -> Latches {
+        Latches {
+            kind,
+            first: 0,
+            second: 0,
+        }
+    }
+
+    /// Where the screen byte of a cell stands.
+    pub fn screen_address(&self, line: usize, column: usize, mode: u8) -> Address {
+        let refusals =
+            bit(MODE, mode > 7) | bit(LINE, line >= LINES) | bit(COLUMN, column >= COLUMNS);
+        let status = lowest(refusals);
+        let address = match status {
+            0 => painter::line_starts(line)[usize::from(mode >> 2)] + column,
+            _ => 0,
+        };
+        Address {
+            status,
+            address: address as u16,
+        }
+    }
+
+    /// Paints one line.
+    pub fn paint_line(
+        &self,
+        memory: &[u8],
+        state: State,
+        line: usize,
+        output: &mut [u8],
+    ) -> Painted {
+        let refusals = of_memory(memory)
+            | bit(OUTPUT, output.len() != LINE_LENGTH)
+            | of_state(state)
+            | bit(LINE, line >= LINES);
+        if refusals != 0 {
+            return refused_painting(refusals, state);
+        }
+        let memory = memory.try_into().expect("the length was tested");
+        let output = output.try_into().expect("the length was tested");
+        let (mode, character) = self
+            .painter
+            .line(memory, line, state.mode, state.counter, output);
+        Painted {
+            status: 0,
+            state: State { mode, ..state },
+            screen: COLUMNS as u32,
+            character,
+        }
+    }
+
+    /// Paints one frame.
+    pub fn paint_frame(&self, memory: &[u8], state: State, frame: &mut [u8]) -> Painted {
+        let refusals =
+            of_memory(memory) | bit(OUTPUT, frame.len() != FRAME_LENGTH) | of_state(state);
+        if refusals != 0 {
+            return refused_painting(refusals, state);
+        }
+        let memory = memory.try_into().expect("the length was tested");
+        let mut mode = state.mode;
+        let mut total = 0;
+        for (line, output) in frame.chunks_exact_mut(LINE_LENGTH).enumerate() {
+            let output = output.try_into().expect("chunks are lines");
+            let (next, character) = self.painter.line(memory, line, mode, state.counter, output);
+            mode = next;
+            total += character;
+        }
+        Painted {
+            status: 0,
+            state: State {
+                mode,
+                counter: (state.counter + 1) & 31,
+            },
+            screen: (COLUMNS * LINES) as u32,
+            character: total,
+        }
+    }
+
+    /// What answers at an address.
+    pub fn decode(&self, latches: Latches, address: u16) -> Decoded {
+        let refusals = of_kind(latches);
+        if refusals != 0 {
+            return Decoded {
+                status: lowest(refusals),
+                target: 0,
+                number: 0,
+            };
+        }
+        let (target, number) = self.decoder.decode(latches, address);
+        Decoded {
+            status: 0,
+            target,
+            number,
+        }
+    }
+
+    /// Reads over the bus.
+    pub fn read(&self, memory: &[u8], latches: Latches, address: u16) -> Access {
+        let refusals = of_memory(memory) | of_kind(latches);
+        if refusals != 0 {
+            return refused_access(refusals);
+        }
+        let (target, number) = self.decoder.decode(latches, address);
+        let kept = 0u8.wrapping_sub(decoder::is_ram(target) as u8);
+        Access {
+            status: 0,
+            target,
+            number,
+            byte: memory[usize::from(number)] & kept,
+        }
+    }
+
+    /// Writes over the bus, latches by value.
+    pub fn write(&self, memory: &mut [u8], latches: Latches, address: u16, byte: u8) -> Written {
+        let mut latches = latches;
+        let answer = self.write_in_place(memory, &mut latches, address, byte);
+        Written {
+            status: answer.status,
+            target: answer.target,
+            number: answer.number,
+            byte: answer.byte,
+            latches,
+        }
+    }
+
+    /// Writes over the bus, latches in place.
+    pub fn write_in_place(
+        &self,
+        memory: &mut [u8],
+        latches: &mut Latches,
+        address: u16,
+        byte: u8,
+    ) -> Access {
+        let refusals = of_memory(memory) | of_kind(*latches);
+        if refusals != 0 {
+            return refused_access(refusals);
+        }
+        let (target, number) = self.decoder.decode(*latches, address);
+        if decoder::is_ram(target) {
+            memory[usize::from(number)] = byte;
+        }
+        self.decoder.latch(latches, address, byte);
+        Access {
+            status: 0,
+            target,
+            number,
+            byte: 0,
+        }
+    }
+}
+
+const MEMORY: u8 = 1;
+const OUTPUT: u8 = 2;
+const MODE: u8 = 3;
+const COUNTER: u8 = 4;
+const LINE: u8 = 5;
+const COLUMN: u8 = 6;
+const KIND: u8 = 7;
+
+/// Refusal n as bit n, set where it applies.
+fn bit(number: u8, applies: bool) -> u8 {
+    u8::from(applies) << number
+}
+
+/// The number of the lowest bit, which is the refusal to give, or 0 where there is none.
+fn lowest(refusals: u8) -> u8 {
+    match refusals {
+        0 => 0,
+        _ => refusals.trailing_zeros() as u8,
+    }
+}
+
+fn of_memory(memory: &[u8]) -> u8 {
+    bit(MEMORY, memory.len() != MEMORY_LENGTH)
+}
+
+fn of_state(state: State) -> u8 {
+    bit(MODE, state.mode > 7) | bit(COUNTER, state.counter > 31)
+}
+
+fn of_kind(latches: Latches) -> u8 {
+    bit(KIND, latches.kind > 2)
+}
+
+fn refused_painting(refusals: u8, state: State) -> Painted {
+    Painted {
+        status: lowest(refusals),
+        state,
+        screen: 0,
+        character: 0,
+    }
+}
+
+fn refused_access(refusals: u8) -> Access {
+    Access {
+        status: lowest(refusals),
+        target: 0,
+        number: 0,
+        byte: 0,
+    }
+}

@@ -1,0 +1,307 @@
+/*
+ * tropfenpfad.h - the proved reference of the HCS10017, the ULA of the Oric Atmos
+ *
+ * Two halves. The video half says where a screen byte stands and paints lines
+ * and frames from a RAM image. The bus half says what answers at an address
+ * and reads and writes over it. Link with libreference.a (x86-64 Linux), which
+ * needs nothing beyond the C library.
+ *
+ *   cc -std=c11 -I include program.c target/staticlib/libreference.a
+ *
+ * Every answer is a record by value. Where it has a status, that is 0 for done
+ * or the number of a refusal, and the refusals below say the rest. No call
+ * prints, allocates, fails or stops the program in any other way, and none
+ * keeps anything between calls: threads may call at the same time as long as
+ * no one of them writes bytes that another one uses.
+ *
+ * What the caller owes
+ *
+ *   - A pointer that comes with a length points to that many bytes: readable
+ *     where it is const, else readable and writable. Any length may be handed
+ *     over; a wrong one is refused, and then none of the bytes is changed.
+ *   - A null pointer only together with the length 0 (which is refused).
+ *     The pointer to a latch record has no length and is never null.
+ *   - What is lent in one call does not overlap: not memory and output, not
+ *     memory and latch record.
+ *
+ * Nothing else is owed. Every value of every number is answered or refused,
+ * a byte may hold anything, and no buffer needs an alignment or a first
+ * content. The calls touch no byte outside what is lent to them.
+ *
+ * Numbers such as BB80 in these comments are hexadecimal addresses.
+ */
+#ifndef TROPFENPFAD_H
+#define TROPFENPFAD_H
+
+#include <stddef.h>
+#include <stdint.h>
+
+#ifdef __cplusplus
+extern "C" {
+#endif
+
+/* ------------------------------------------------------------------------- */
+/* Sizes                                                                     */
+/* ------------------------------------------------------------------------- */
+
+/* Bytes in a memory image: the machine's whole RAM, byte n at address n. ROM
+ * and EPROM are not part of it. */
+#define TROPFENPFAD_MEMORY_LENGTH 65536
+
+/* Cells from left to right, six pixels each; columns are 0 to 39. */
+#define TROPFENPFAD_COLUMNS 40
+
+/* Lines from top to bottom; they are 0 to 223. */
+#define TROPFENPFAD_LINES 224
+
+/* Bytes in a painted line, one for each pixel from left to right. A pixel is
+ * 0 to 7: bit 0 red, bit 1 green, bit 2 blue. */
+#define TROPFENPFAD_LINE_LENGTH 240
+
+/* Bytes in a painted frame: its lines one after the other. Pixel x of line y
+ * stands at 240 * y + x. */
+#define TROPFENPFAD_FRAME_LENGTH 53760
+
+/* ------------------------------------------------------------------------- */
+/* Refusals: the values of `status`                                          */
+/* ------------------------------------------------------------------------- */
+
+/*
+ * Each function names the refusals that it can give. It tests them in rising
+ * order and gives the first that applies, so that a call with two wrong
+ * arguments always gives the same number.
+ *
+ * A refused call has changed nothing that was lent. In its answer the state or
+ * the latches are those that were handed in, and all else but the status is 0.
+ */
+#define TROPFENPFAD_DONE            0 /* the call was answered */
+#define TROPFENPFAD_REFUSED_MEMORY  1 /* memory_length is not 65,536 */
+#define TROPFENPFAD_REFUSED_OUTPUT  2 /* output is not 240 bytes, or frame not 53,760 */
+#define TROPFENPFAD_REFUSED_MODE    3 /* mode is above 7 */
+#define TROPFENPFAD_REFUSED_COUNTER 4 /* counter is above 31 */
+#define TROPFENPFAD_REFUSED_LINE    5 /* line is above 223 */
+#define TROPFENPFAD_REFUSED_COLUMN  6 /* column is above 39 */
+#define TROPFENPFAD_REFUSED_KIND    7 /* the latches' kind is above 2 */
+
+/* ------------------------------------------------------------------------- */
+/* Controller kinds: the values of `kind`                                    */
+/* ------------------------------------------------------------------------- */
+
+#define TROPFENPFAD_KIND_NONE      0 /* no controller: C000 to FFFF is the BASIC ROM */
+#define TROPFENPFAD_KIND_MICRODISC 1 /* one latch, at 0314 */
+#define TROPFENPFAD_KIND_JASMIN    2 /* two latches, at 03FA and 03FB */
+
+/* ------------------------------------------------------------------------- */
+/* Targets: the values of `target`, each with the meaning of its `number`    */
+/* ------------------------------------------------------------------------- */
+
+#define TROPFENPFAD_TARGET_RAM         0 /* RAM below C000; number: the address */
+#define TROPFENPFAD_TARGET_VIA         1 /* the 6522; number: its register, 0 to 15 */
+#define TROPFENPFAD_TARGET_CONTROLLER  2 /* disc controller; number: address - 0300 */
+#define TROPFENPFAD_TARGET_BASIC_ROM   3 /* BASIC ROM; number: address - C000 */
+#define TROPFENPFAD_TARGET_OVERLAY_RAM 4 /* RAM from C000 on; number: the address */
+#define TROPFENPFAD_TARGET_BOOT_EPROM  5 /* boot EPROM; number: address - C000 */
+#define TROPFENPFAD_TARGET_UNASSIGNED  6 /* nothing is there; number: address - 0300 */
+
+/* ------------------------------------------------------------------------- */
+/* Records                                                                   */
+/* ------------------------------------------------------------------------- */
+
+/* What video carries from cell to cell, line to line and frame to frame. */
+typedef struct {
+  uint8_t mode;    /* 0 to 7: bit 2 hires (else text), bit 1 50 Hz (else 60), bit 0 kept, no effect */
+  uint8_t counter; /* flash counter, 0 to 31: flashing ink is shown below 16, hidden from 16 on */
+} tropfenpfad_state;
+
+/* The answer of paint_line and paint_frame. */
+typedef struct {
+  uint8_t status;          /* TROPFENPFAD_DONE or a refusal */
+  tropfenpfad_state state; /* the state afterwards; as handed in on a refusal */
+  uint32_t screen;         /* screen bytes used: 40 for a line, 8,960 for a frame */
+  uint32_t character;      /* character bytes used, an address used twice counted twice */
+} tropfenpfad_painted;
+
+/* The answer of screen_address. */
+typedef struct {
+  uint8_t status;   /* TROPFENPFAD_DONE or a refusal */
+  uint16_t address; /* where the cell's screen byte stands, A000 to BFDF */
+} tropfenpfad_address;
+
+/* Which controller is fitted and what was last written to its latches. */
+typedef struct {
+  uint8_t kind;   /* TROPFENPFAD_KIND_...; above 2 is refused where it is used */
+  uint8_t first;  /* Microdisc: written at 0314; Jasmin: written at 03FA; any byte */
+  uint8_t second; /* Jasmin: written at 03FB; any byte */
+} tropfenpfad_latches;
+
+/* The answer of decode. */
+typedef struct {
+  uint8_t status;  /* TROPFENPFAD_DONE or a refusal */
+  uint8_t target;  /* TROPFENPFAD_TARGET_... */
+  uint16_t number; /* which of the target's bytes or registers */
+} tropfenpfad_decoded;
+
+/* The answer of read and of write_in_place. */
+typedef struct {
+  uint8_t status;  /* TROPFENPFAD_DONE or a refusal */
+  uint8_t target;  /* TROPFENPFAD_TARGET_... */
+  uint16_t number; /* which of the target's bytes or registers */
+  uint8_t byte;    /* the byte read; 0 from anything but RAM, and for a write */
+} tropfenpfad_access;
+
+/* The answer of write. */
+typedef struct {
+  uint8_t status;              /* TROPFENPFAD_DONE or a refusal */
+  uint8_t target;              /* TROPFENPFAD_TARGET_... */
+  uint16_t number;             /* which of the target's bytes or registers */
+  uint8_t byte;                /* always 0: a write reads nothing */
+  tropfenpfad_latches latches; /* for the next access; as handed in on a refusal */
+} tropfenpfad_written;
+
+/* ------------------------------------------------------------------------- */
+/* Video                                                                     */
+/* ------------------------------------------------------------------------- */
+
+/* The state to begin with: mode 2 (text, 50 Hz), counter 0. Refuses nothing. */
+tropfenpfad_state tropfenpfad_fresh_state(void);
+
+/*
+ * Where the screen byte of a cell stands when `mode` is in force there.
+ *
+ *   hires, lines 0 to 199:  A000 + 40 * line + column
+ *   all else:               BB80 + 40 * (line / 8) + column
+ *
+ * Refuses: 3 mode, 5 line, 6 column.
+ */
+tropfenpfad_address tropfenpfad_screen_address(size_t line, size_t column, uint8_t mode);
+
+/*
+ * Paints one line.
+ *
+ * The line begins with ink 7, style 0, paper 0 and the mode of `state`. Each
+ * of its forty cells takes the screen byte at the address that the mode in
+ * force gives. A byte with bits 5 and 6 both 0 is an attribute: bits 3 and 4
+ * name the register (0 ink, 1 style, 2 paper, 3 mode), bits 0 to 2 are its new
+ * value, and the cell shows six pixels of paper, the new one if it set that.
+ * A new mode holds from the next cell on. Any other byte is a picture, of six
+ * pixels in ink (1) and paper (0), bit 5 leftmost: the byte's own low six bits
+ * in hires on lines 0 to 199, else those of one byte of the character set.
+ *
+ *   character byte:  set + 400 if alternate + 8 * (byte % 128) + row
+ *   set:             B400 in text, 9800 in hires (lines 200 to 223)
+ *   row:             line % 8, or line / 2 % 8 in double height
+ *   style:           bit 0 alternate set, bit 1 double height, bit 2 flash
+ *
+ * With the flash style, ink shows as paper while the counter is 16 or more.
+ * Last, bit 7 of the screen byte turns each colour c into 7 - c, on attribute
+ * cells too.
+ *
+ *   memory, memory_length   the RAM image, 65,536 bytes; only read
+ *   state                   mode and counter before the line
+ *   line                    0 to 223
+ *   output, output_length   240 bytes, all of them written
+ *
+ * Returns the state after the line (its mode; the counter stays) and the
+ * numbers of screen and character bytes used. Attribute cells and hires cells
+ * on lines 0 to 199 use no character byte.
+ * Refuses: 1 memory, 2 output, 3 mode, 4 counter, 5 line.
+ */
+tropfenpfad_painted tropfenpfad_paint_line(const uint8_t *memory, size_t memory_length,
+                                           tropfenpfad_state state, size_t line,
+                                           uint8_t *output, size_t output_length);
+
+/*
+ * Paints one frame: lines 0 to 223 in order as paint_line does, each from
+ * 240 * line on, the mode handed from line to line.
+ *
+ *   memory, memory_length   the RAM image, 65,536 bytes; only read
+ *   state                   mode and counter before the frame
+ *   frame, frame_length     53,760 bytes, all of them written
+ *
+ * Returns the state to hand to the next frame, which is the mode that the last
+ * line left and the counter plus one, 0 after 31, and the sums of the lines'
+ * counts. Hand that state on: a frame that is painted from the fresh state
+ * although the one before it ended in hires is another picture.
+ * Refuses: 1 memory, 2 output, 3 mode, 4 counter.
+ */
+tropfenpfad_painted tropfenpfad_paint_frame(const uint8_t *memory, size_t memory_length,
+                                            tropfenpfad_state state,
+                                            uint8_t *frame, size_t frame_length);
+
+/* ------------------------------------------------------------------------- */
+/* Bus                                                                       */
+/* ------------------------------------------------------------------------- */
+
+/* The latches to begin with: the kind as given, both latch bytes 0. Refuses
+ * nothing: a kind above 2 is taken, and refused by the calls that use it. */
+tropfenpfad_latches tropfenpfad_fresh_latches(uint8_t kind);
+
+/*
+ * What answers at an address.
+ *
+ *   0000 to 02FF, 0400 to BFFF                    RAM
+ *   page 3   Microdisc: 0310 to 0314, 0318        controller
+ *            Microdisc: the rest of 0310 to 031F  unassigned
+ *            Jasmin:    03F4 to 03FF              controller
+ *            all else                             VIA, register address % 16
+ *   C000 to FFFF, by kind:
+ *            none       BASIC ROM
+ *            Microdisc  bit 1 of first set: BASIC ROM; clear: overlay RAM if
+ *                       bit 7 of first is set, else boot EPROM
+ *            Jasmin     bit 0 of first set: overlay RAM; clear: boot EPROM if
+ *                       bit 0 of second is set, else BASIC ROM
+ *
+ * Returns the target and its number. Refuses: 7 kind.
+ */
+tropfenpfad_decoded tropfenpfad_decode(tropfenpfad_latches latches, uint16_t address);
+
+/*
+ * Reads one byte over the bus; changes nothing.
+ *
+ *   memory, memory_length   the RAM image, 65,536 bytes; only read
+ *   latches                 the latches in force
+ *   address                 any
+ *
+ * Returns the target and its number as decode does, and the byte at that
+ * number for RAM and overlay RAM, 0 for every other target.
+ * Refuses: 1 memory, 7 kind.
+ */
+tropfenpfad_access tropfenpfad_read(const uint8_t *memory, size_t memory_length,
+                                    tropfenpfad_latches latches, uint16_t address);
+
+/*
+ * Writes one byte over the bus, latches by value.
+ *
+ *   memory, memory_length   the RAM image, 65,536 bytes; one byte is stored at
+ *                           the target's number for RAM and overlay RAM, none
+ *                           for any other target
+ *   latches                 the latches in force for this access
+ *   address, byte           any
+ *
+ * Returns the target and its number as decode does, byte 0, and the latches
+ * for the next access. These are the ones handed in, but for a write to a
+ * latch: Microdisc at 0314 sets first, Jasmin at 03FA first and at 03FB second.
+ * Refuses: 1 memory, 7 kind.
+ */
+tropfenpfad_written tropfenpfad_write(uint8_t *memory, size_t memory_length,
+                                      tropfenpfad_latches latches,
+                                      uint16_t address, uint8_t byte);
+
+/*
+ * Writes one byte over the bus, latches in place: as write, but the latches in
+ * force are those of the lent record, and those for the next access are left
+ * in it. A refused call leaves the record as it was.
+ *
+ *   latches                 one record, never null, apart from memory
+ *
+ * Returns the target, its number and byte 0. Refuses: 1 memory, 7 kind.
+ */
+tropfenpfad_access tropfenpfad_write_in_place(uint8_t *memory, size_t memory_length,
+                                              tropfenpfad_latches *latches,
+                                              uint16_t address, uint8_t byte);
+
+#ifdef __cplusplus
+}
+#endif
+
+#endif /* TROPFENPFAD_H */
