@@ -26,6 +26,7 @@ pub mod ffi;
 pub mod figures;
 pub mod images;
 pub mod model;
+pub mod planes;
 mod refusal;
 
 pub use ffi::{Latches, State};

@@ -7,7 +7,7 @@ use std::collections::HashSet;
 use common::{all_states, assert_same_bytes, fingerprint, start_states, COUNTERS, MODES};
 use tropfenpfad::images::{self, Kind, Xorshift};
 use tropfenpfad::model::Model;
-use tropfenpfad::{calls, State, COLUMNS, FRAME_LENGTH, LINES, LINE_LENGTH, MEMORY_LENGTH};
+use tropfenpfad::{calls, planes, State, COLUMNS, FRAME_LENGTH, LINES, LINE_LENGTH, MEMORY_LENGTH};
 
 /// Seeds for each kind and each start state.
 const SEEDS: u64 = 80;
@@ -177,4 +177,22 @@ fn a_picture_that_hangs_on_bytes_video_never_reads() {
         }
     }
     println!("unread bytes: {paintings} paintings compared");
+}
+
+#[test]
+fn two_independent_painters_that_disagree() {
+    let model = Model::new();
+    let [mut first, mut second] = [vec![0; FRAME_LENGTH], vec![0xFF; FRAME_LENGTH]];
+    let mut compared = 0;
+    for kind in Kind::ALL {
+        for (seed, state) in (0..).zip(start_states()) {
+            let memory = images::image(kind, seed);
+            let tables = model.paint_frame(&memory, state, &mut first);
+            let planes = planes::paint_frame(&memory, state, &mut second);
+            assert_eq!(tables, planes, "{kind:?} from {state:?}");
+            assert_same_bytes("a frame by planes", &first, &second);
+            compared += 1;
+        }
+    }
+    println!("{compared} frames by tables and by planes are equal");
 }

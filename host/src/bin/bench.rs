@@ -1,12 +1,13 @@
-//! How fast the library paints and decodes, beside the model and beside the limit of only filling
-//! the buffer. All are timed in one run and take turns; each figure is the best of several.
+//! How fast the library paints and decodes, beside a plain painter by bit planes, beside the model,
+//! which is by tables and made for speed, and beside the limit of only filling the buffer. All are
+//! timed in one run and take turns; each figure is the best of several.
 
 use std::hint::black_box;
 use std::time::{Duration, Instant};
 
 use tropfenpfad::images::{self, Kind, Xorshift};
 use tropfenpfad::model::Model;
-use tropfenpfad::{calls, Latches, State, FRAME_LENGTH, MEMORY_LENGTH};
+use tropfenpfad::{calls, planes, Latches, State, FRAME_LENGTH, MEMORY_LENGTH};
 
 const ROUNDS: usize = 40;
 const IMAGES: usize = 32;
@@ -16,7 +17,9 @@ const GROWTH: [usize; 5] = [1, 10, 100, 1_000, 10_000];
 
 fn main() {
     println!("Buffers are not cleared between runs: each frame is painted over the one before.");
-    println!("Each image's figure is the best of {ROUNDS}; library, model and fill take turns.");
+    println!(
+        "Each image's figure is the best of {ROUNDS}; library, planes, tables and fill take turns."
+    );
     let model = Model::new();
     frames(&model);
     bus(&model);
@@ -40,14 +43,15 @@ fn frames(model: &Model) {
     println!();
     println!("Frames: {IMAGES} images of each kind, from every mode and counters {COUNTERS:?}.");
     println!(
-        "{:<13} {:>10} {:>10} {:>10} {:>12} {:>12} {:>14} {:>13}",
+        "{:<13} {:>10} {:>10} {:>10} {:>10} {:>12} {:>15} {:>15} {:>13}",
         "kind",
         "library us",
-        "model us",
+        "planes us",
+        "tables us",
         "fill us",
         "library f/s",
-        "model f/s",
-        "library/model",
+        "library/planes",
+        "library/tables",
         "library/fill"
     );
     for kind in Kind::ALL {
@@ -56,9 +60,9 @@ fn frames(model: &Model) {
 }
 
 /// The time that each contestant takes for all images of a kind.
-fn time_images(model: &Model, kind: Kind) -> [Duration; 3] {
+fn time_images(model: &Model, kind: Kind) -> [Duration; 4] {
     let mut frames = std::array::from_fn(|_| vec![0; FRAME_LENGTH]);
-    let mut total = [Duration::ZERO; 3];
+    let mut total = [Duration::ZERO; 4];
     for index in 0..IMAGES {
         let memory = images::image(kind, index as u64);
         let state = State {
@@ -70,6 +74,7 @@ fn time_images(model: &Model, kind: Kind) -> [Duration; 3] {
             *total += time;
         }
         assert!(frames[0] == frames[1], "{kind:?} image {index} differs");
+        assert!(frames[0] == frames[2], "{kind:?} image {index} differs");
     }
     total
 }
@@ -78,13 +83,14 @@ fn time_image(
     model: &Model,
     memory: &[u8],
     state: State,
-    frames: &mut [Vec<u8>; 3],
-) -> [Duration; 3] {
-    let [first, second, third] = frames;
+    frames: &mut [Vec<u8>; 4],
+) -> [Duration; 4] {
+    let [first, second, third, fourth] = frames;
     best([
         &mut || _ = black_box(calls::paint_frame(black_box(memory), state, first)),
-        &mut || _ = black_box(model.paint_frame(black_box(memory), state, second)),
-        &mut || fill(black_box(third), black_box(state.mode)),
+        &mut || _ = black_box(planes::paint_frame(black_box(memory), state, second)),
+        &mut || _ = black_box(model.paint_frame(black_box(memory), state, third)),
+        &mut || fill(black_box(fourth), black_box(state.mode)),
     ])
 }
 
@@ -94,17 +100,18 @@ fn fill(frame: &mut [u8], colour: u8) {
     }
 }
 
-fn frame_row(kind: Kind, times: [Duration; 3]) {
-    let [library, model, fill] = times.map(|time| time.as_secs_f64() / IMAGES as f64);
+fn frame_row(kind: Kind, times: [Duration; 4]) {
+    let [library, planes, tables, fill] = times.map(|time| time.as_secs_f64() / IMAGES as f64);
     println!(
-        "{:<13} {:>10.2} {:>10.2} {:>10.2} {:>12.0} {:>12.0} {:>14.2} {:>13.1}",
+        "{:<13} {:>10.2} {:>10.2} {:>10.2} {:>10.2} {:>12.0} {:>15.2} {:>15.2} {:>13.1}",
         format!("{kind:?}"),
         library * 1e6,
-        model * 1e6,
+        planes * 1e6,
+        tables * 1e6,
         fill * 1e6,
         1.0 / library,
-        1.0 / model,
-        library / model,
+        library / planes,
+        library / tables,
         library / fill
     );
 }
