@@ -61,7 +61,7 @@ fn full_line(image: &mut [u8], line: usize, ink: u8)
 }
 
 // Lines 64 to 95: a grid, diagonals, and crosses in inverse. The last line stays in hires.
-pub fn split(image: &mut [u8])
+pub(crate) fn split(image: &mut [u8])
     requires { ⌜ length (now image) ≡ 65536 ⌝ }
 {
     let mut line = 64;
@@ -73,7 +73,7 @@ pub fn split(image: &mut [u8])
 }
 
 // Lines 96 to 111, two in each ink. The last line returns to text at column 19.
-pub fn full(image: &mut [u8])
+pub(crate) fn full(image: &mut [u8])
     requires { ⌜ length (now image) ≡ 65536 ⌝ }
 {
     let mut ink = INK;

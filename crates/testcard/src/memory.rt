@@ -5,7 +5,7 @@ ghost use lib.ListN.{length, replicate};
 ghost use lib.Seq.{paste};
 
 // Puts bytes into the image, from the address on.
-pub fn put(image: &mut [u8], address: usize, bytes: &[u8])
+pub(crate) fn put(image: &mut [u8], address: usize, bytes: &[u8])
     requires { ⌜ address + length (now bytes) ≤ length (now image) ⌝ }
     ensures { λ _. ⌜ now (image .exit) ≡ paste (now (image .entry)) address (now (bytes .entry)) (length (now (bytes .entry))) ⌝ }
 {
@@ -17,7 +17,7 @@ pub fn put(image: &mut [u8], address: usize, bytes: &[u8])
 }
 
 // Puts the byte into the image count times, from the address on.
-pub fn fill(image: &mut [u8], address: usize, count: usize, byte: u8)
+pub(crate) fn fill(image: &mut [u8], address: usize, count: usize, byte: u8)
     requires { ⌜ address + count ≤ length (now image) ⌝ }
     ensures { λ _. ⌜ now (image .exit) ≡ paste (now (image .entry)) address (replicate count byte) count ⌝ }
 {

@@ -35,7 +35,7 @@ pub const BLOCK: u8 = 127;
 pub const MOSAIC: u8 = 32;
 
 // The font and the block.
-pub fn text_standard(image: &mut [u8])
+pub(crate) fn text_standard(image: &mut [u8])
     requires { ⌜ length (now image) ≡ 65536 ⌝ }
 {
     put(image, SIGNS_AT, &SIGNS);
@@ -44,7 +44,7 @@ pub fn text_standard(image: &mut [u8])
 }
 
 // The mosaics with gaps between their blocks.
-pub fn text_alternate(image: &mut [u8])
+pub(crate) fn text_alternate(image: &mut [u8])
     requires { ⌜ length (now image) ≡ 65536 ⌝ }
 {
     let mut i = 0;
@@ -55,7 +55,7 @@ pub fn text_alternate(image: &mut [u8])
 }
 
 // The standard set of text mode, slanted.
-pub fn hires_standard(image: &mut [u8])
+pub(crate) fn hires_standard(image: &mut [u8])
     requires { ⌜ length (now image) ≡ 65536 ⌝ }
 {
     let mut i = 0;
@@ -66,7 +66,7 @@ pub fn hires_standard(image: &mut [u8])
 }
 
 // The mosaics without gaps.
-pub fn hires_alternate(image: &mut [u8])
+pub(crate) fn hires_alternate(image: &mut [u8])
     requires { ⌜ length (now image) ≡ 65536 ⌝ }
 {
     let mut i = 0;

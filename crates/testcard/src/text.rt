@@ -12,14 +12,14 @@ const TEXT_SCREEN: usize = 0xBB80;
 pub const SPACE: u8 = 0x20;
 
 // Fills the screen with spaces: the byte 0 is an attribute, black ink.
-pub fn clear(image: &mut [u8])
+pub(crate) fn clear(image: &mut [u8])
     requires { ⌜ length (now image) ≡ 65536 ⌝ }
 {
     fill(image, TEXT_SCREEN, 28 * 40, SPACE);
 }
 
 // Puts bytes into the cells from a column on.
-pub fn write(image: &mut [u8], row: usize, column: usize, bytes: &[u8])
+pub(crate) fn write(image: &mut [u8], row: usize, column: usize, bytes: &[u8])
     requires { ⌜ length (now image) ≡ 65536 ⌝ }
     requires { ⌜ (row < 28) × (column + length (now bytes) ≤ 40) ⌝ }
     ensures { λ _. ⌜ now (image .exit) ≡ paste (now (image .entry)) (0xBB80 + 40 * row + column) (now (bytes .entry)) (length (now (bytes .entry))) ⌝ }
@@ -28,7 +28,7 @@ pub fn write(image: &mut [u8], row: usize, column: usize, bytes: &[u8])
 }
 
 // Puts one byte, an attribute, into a cell.
-pub fn attribute(image: &mut [u8], row: usize, column: usize, byte: u8)
+pub(crate) fn attribute(image: &mut [u8], row: usize, column: usize, byte: u8)
     requires { ⌜ length (now image) ≡ 65536 ⌝ }
     requires { ⌜ (row < 28) × (column < 40) ⌝ }
     ensures { λ _. ⌜ now (image .exit) ≡ set (now (image .entry)) (0xBB80 + 40 * row + column) byte ⌝ }
@@ -37,7 +37,7 @@ pub fn attribute(image: &mut [u8], row: usize, column: usize, byte: u8)
 }
 
 // Puts character codes that follow each other into the cells from a column on.
-pub fn codes(image: &mut [u8], row: usize, column: usize, first: u8, count: usize)
+pub(crate) fn codes(image: &mut [u8], row: usize, column: usize, first: u8, count: usize)
     requires { ⌜ length (now image) ≡ 65536 ⌝ }
     requires { ⌜ (row < 28) × (column + count ≤ 40) × (first + count ≤ 128) ⌝ }
 {
@@ -52,7 +52,7 @@ pub fn codes(image: &mut [u8], row: usize, column: usize, first: u8, count: usiz
 }
 
 // Sets bit 7 of the cells from a column on.
-pub fn inverse(image: &mut [u8], row: usize, column: usize, count: usize)
+pub(crate) fn inverse(image: &mut [u8], row: usize, column: usize, count: usize)
     requires { ⌜ length (now image) ≡ 65536 ⌝ }
     requires { ⌜ (row < 28) × (column + count ≤ 40) ⌝ }
 {
@@ -65,7 +65,7 @@ pub fn inverse(image: &mut [u8], row: usize, column: usize, count: usize)
 }
 
 // Eight bars from column 8 on, one for each colour: its attribute, and three cells of the byte.
-pub fn bars(image: &mut [u8], row: usize, attribute: u8, byte: u8)
+pub(crate) fn bars(image: &mut [u8], row: usize, attribute: u8, byte: u8)
     requires { ⌜ length (now image) ≡ 65536 ⌝ }
     requires { ⌜ (row < 28) × (attribute + 7 < 256) ⌝ }
 {

@@ -1,14 +1,14 @@
 -- Every address that a cell uses lies in its region, below C000.
 -- By the cases of the table: lines 0 to 199 or below them, text or hires.
 -- Assumes nothing.
-use Prim.Native.Nat.{ℕ, _<_, _≤_, _/_, _%_}
-use mathlib.Core.Bool.{Bool, true, false, true≢false}
+use Prim.Native.Nat.{ℕ, _<_, _≤_, _+_, _*_, _/_, _%_}
+use mathlib.Core.Bool.{Bool, true, false, cond, true≢false}
 use mathlib.Core.Path.{_≡_, refl}
 use native.Mathlib.Omega.{arith}
 use lib.Dec.{ltb}
 use borrow.Author.Tests.{ltb-true, ltb-false}
 use Rattle.machine.specs.Bits.{bit}
-use Rattle.video.specs.Address.{isHires, isBitmap, screenAddress, alternateOffset, characterRow, characterAddress}
+use Rattle.video.specs.Address.{isHires, isBitmap, screenAddress, characterSet, alternateOffset, characterRow, characterAddress}
 use Rattle.video.specs.Region.{In, screenRegion, definitionRegion}
 use Rattle.video.proofs.Choice.{cond-most}
 
@@ -27,6 +27,19 @@ module _ (line column mode : ℕ) (hl : line < 224) (hc : column < 40) where
   pub screen-below : screenAddress line column mode < 0xC000
   screen-below = screen-case (ltb line 200) (isHires mode) refl refl .1
 
+-- a cell's screen byte follows the one at column 0
+pub screen-from : (line column mode : ℕ) → screenAddress line 0 mode + column ≡ screenAddress line column mode
+screen-from line column mode = go (isBitmap line mode)
+  where
+    go : (bitmap : Bool)
+        → cond bitmap (0xA000 + 40 * line + 0) (0xBB80 + 40 * (line / 8) + 0) + column ≡ cond bitmap (0xA000 + 40 * line + column) (0xBB80 + 40 * (line / 8) + column)
+    go true = omega arith
+    go false = omega arith
+
+-- the row of character 0, from which the others follow
+pub first-character : (line mode style : ℕ) → characterAddress line mode style 0 ≡ characterSet mode + alternateOffset style + characterRow line style
+first-character line mode style = omega arith
+
 module _ (line mode style code : ℕ) (hc : code < 128) where
   row-most : characterRow line style ≤ 7
   row-most = cond-most (bit 2 style) (line / 2 % 8) (line % 8) (omega arith) (omega arith)
@@ -34,8 +47,12 @@ module _ (line mode style code : ℕ) (hc : code < 128) where
   offset-most : alternateOffset style ≤ 0x400
   offset-most = cond-most (bit 1 style) 0x400 0 (omega arith) (omega arith)
 
+  -- any character byte of a set
+  pub characters-below : characterAddress line mode style code < 0xC000
+  characters-below = omega (arith, row-most, offset-most, cond-most (isHires mode) 0x9800 0xB400 {most = 0xB400} (omega arith) (omega arith))
+
   definition-case : (upper hires : Bool) → ltb line 200 ≡ upper → isHires mode ≡ hires → isBitmap line mode ≡ false
-      → In (definitionRegion line mode) (characterAddress line mode style code) × (characterAddress line mode style code < 0xC000)
+      → In (definitionRegion line mode) (characterAddress line mode style code)
   definition-case true true u h none = absurd (true≢false (simp (u, h) at none))
   definition-case true false u h none = simp (u, h) (omega (arith, row-most, offset-most))
   definition-case false true u h none = simp (u, h) (omega (arith, row-most, offset-most))
@@ -43,7 +60,4 @@ module _ (line mode style code : ℕ) (hc : code < 128) where
 
   -- the character byte of a picture that shows no bitmap
   pub definition-in-region : isBitmap line mode ≡ false → In (definitionRegion line mode) (characterAddress line mode style code)
-  definition-in-region none = definition-case (ltb line 200) (isHires mode) refl refl none .0
-
-  pub definition-below : isBitmap line mode ≡ false → characterAddress line mode style code < 0xC000
-  definition-below none = definition-case (ltb line 200) (isHires mode) refl refl none .1
+  definition-in-region none = definition-case (ltb line 200) (isHires mode) refl refl none

@@ -1,11 +1,12 @@
 -- Laws of a choice between two values, and of a pattern's six choices.
 -- Assumes nothing.
-use Prim.Native.Nat.{ℕ, _-_, _≤_}
-use mathlib.Core.Bool.{Bool, true, false, cond, _&&_}
+use Prim.Native.Nat.{ℕ, zero, suc, _+_, _-_, _*_, _^_, _/_, _%_, _≤_, _<_}
+use mathlib.Core.Bool.{Bool, true, false, cond, not, _&&_}
 use mathlib.Core.List.{List, [], _∷_, map}
-use mathlib.Core.Path.{_≡_, refl, ap₂}
+use mathlib.Core.Path.{_≡_, refl, ap, ap₂, _∙_}
 use native.Mathlib.Omega.{arith}
-use lib.Dec.{leb}
+use lib.Bits.{bitAnd, and-zero-r, and-block, and-mask}
+use lib.Dec.{eqb, leb}
 use Rattle.machine.specs.Bits.{bit}
 use Rattle.video.specs.Registers.{patternColour, shownInk, complemented}
 use Rattle.video.specs.declared.registers.Registers.{Registers}
@@ -32,6 +33,27 @@ pattern-map f ink paper pattern (weight ∷ weights) =
 pub shown-most : (registers : Registers) (counter : ℕ) → registers .ink ≤ 7 → registers .paper ≤ 7 → shownInk registers counter ≤ 7
 shown-most registers counter ink paper =
     cond-most (bit 4 (registers .style) && leb 16 counter) (registers .paper) (registers .ink) paper ink
+
+-- the style under the mask of flash, which is 0 while flash is not hidden
+masked : (style : ℕ) (hidden : Bool) → bitAnd style (cond hidden 4 0) ≡ cond hidden (4 * (style / 4 % 2)) 0
+masked style true =
+    let split : style ≡ style / 4 * 2 ^ 2 + style % 4 = omega arith in
+    ap (λ (n : ℕ). bitAnd n 4) split
+    ∙ and-block 2 (style / 4) 1 (style % 4) 0 (omega arith) (omega arith)
+    ∙ omega (arith, and-mask (style / 4) 1, and-zero-r (style % 4))
+masked style false = and-zero-r style
+
+flag : (digit : ℕ) (hidden : Bool) → digit < 2 → not (eqb (cond hidden (4 * digit) 0) 0) ≡ (eqb digit 1 && hidden)
+flag zero true h = refl
+flag zero false h = refl
+flag (suc zero) true h = refl
+flag (suc zero) false h = refl
+flag (suc (suc n)) hidden h = absurd (omega arith)
+
+pub hidden-ink : (registers : Registers) (counter : ℕ)
+    → cond (not (eqb (bitAnd (registers .style) (cond (leb 16 counter) 4 0)) 0)) (registers .paper) (registers .ink) ≡ shownInk registers counter
+hidden-ink registers counter =
+    rw (masked (registers .style) (leb 16 counter), flag (registers .style / 4 % 2) (leb 16 counter) (omega arith)) refl
 
 pub complemented-most : (byte colour : ℕ) → colour ≤ 7 → complemented byte colour ≤ 7
 complemented-most byte colour h = cond-most (bit 128 byte) (7 - colour) colour (omega arith) h

@@ -17,7 +17,7 @@ use Rattle.video.specs.Laws.{Placed, InForce, RegionsHold, ModesCarry, U
 use Rattle.video.specs.Line.{registersBefore, cellAt, firstCells, lineCells}
 use Rattle.video.specs.Region.{In, definitionRegion}
 use Rattle.video.specs.Registers.{isAttribute, shownInk, patternColour, patternWeights, complemented}
-use Rattle.video.proofs.Addresses.{screen-in-region, screen-below, definition-in-region, definition-below}
+use Rattle.video.proofs.Addresses.{screen-in-region, screen-below, definition-in-region, characters-below}
 use Rattle.video.proofs.Cells.{Coloured, after-coloured}
 use Rattle.video.proofs.Choice.{cond-all, cond-most, shown-most, complemented-most}
 use Rattle.video.proofs.Frames.{mode-down}
@@ -65,7 +65,7 @@ used-below-overlay memory state =
     (each-cell (λ (c : Cell). Each Low (c .screen ∷ Option·toList (c .character))) memory state (λ line column hl hc before coloured.
     each-cons Low _ _ (screen-below line column (before .mode) hl hc)
     (character-each Low line before (screenByte memory line column (before .mode))
-    (definition-below line (before .mode) (before .style) (screenByte memory line column (before .mode) % 128) (omega arith)))))
+    (λ none. characters-below line (before .mode) (before .style) (screenByte memory line column (before .mode) % 128) (omega arith)))))
 
 colours-most : (memory : List ℕ) (counter line : ℕ) (before : Registers) (byte : ℕ) → Coloured before
     → Each (λ (pixel : ℕ). pixel ≤ 7) (coloursOf memory counter line before byte)

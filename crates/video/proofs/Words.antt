@@ -3,8 +3,8 @@
 use Prim.Native.Nat.{_^_, _%_, zero, suc, ℕ, _+_, _-_, _*_, _/_, _≤_, _<_}
 use mathlib.Core.Bool.{Bool, true, false, cond}
 use mathlib.Core.List.{List, [], _∷_, map}
-use mathlib.Core.Path.{_≡_, refl, ap, ap₂, _∙_}
-use native.Mathlib.Nat.{mul-add, mul-left-comm, mul-le-mul}
+use mathlib.Core.Path.{_≡_, refl, sym, ap, ap₂, _∙_}
+use native.Mathlib.Nat.{add-mul, mul-add, mul-left-comm, mul-le-mul}
 use native.Mathlib.Omega.{arith}
 use lib.Bits.{bitAnd, and-zero-r, and-block, and-mask}
 use lib.Dec.{eqb, eqb→eq}
@@ -14,8 +14,8 @@ use Rattle.machine.specs.Lists.{Each}
 use Rattle.machine.proofs.Below.{below}
 use Rattle.machine.proofs.Each.{each-head, each-tail, each-map}
 use Rattle.video.specs.Pattern.{lowBytes, wordOf, spreadWord}
-use Rattle.video.specs.Registers.{patternWeights, patternColour, patternColours}
-use Rattle.video.proofs.Choice.{cond-all}
+use Rattle.video.specs.Registers.{patternWeights, patternColour, patternColours, complemented}
+use Rattle.video.proofs.Choice.{cond-all, complemented-most, pattern-map}
 
 pub low-bytes : (bs : List ℕ) → Each (λ (b : ℕ). b < 256) bs → lowBytes (length bs) (wordOf bs) ≡ bs
 low-bytes [] small = refl
@@ -52,9 +52,9 @@ mixed ink paper (false ∷ bits) =
     let rest : 1 + 256 * all bits - (0 + 256 * ones bits) ≡ 1 + 256 * (all bits - ones bits) = omega arith in
     omega (arith, times ink 0 (ones bits), ap (λ (n : ℕ). paper * n) rest, times paper 1 (all bits - ones bits), mixed ink paper bits)
 
--- a colour times a word of ones is small
-pub colour-times : (colour n : ℕ) → colour ≤ 7 → n ≤ 0x010101010101 → colour * n ≤ 7 * 0x010101010101
-colour-times colour n c h = mul-le-mul c h
+-- a colour is at most 7, in every byte
+pub colour-times : (colour n : ℕ) → colour ≤ 7 → colour * n ≤ 7 * n
+colour-times colour n c = mul-le-mul c (omega arith)
 
 -- the bits of a pattern, the leftmost pixel first
 abbrev pub bitsOf : ℕ → List Bool
@@ -64,7 +64,7 @@ pub spread-most : (pattern : ℕ) → spreadWord pattern ≤ 0x010101010101
 spread-most pattern = ones-most (bitsOf pattern)
 
 -- the six bytes of the sum are the six pixels
-pub six-pixels : (ink paper pattern : ℕ) → ink ≤ 7 → paper ≤ 7
+six-pixels : (ink paper pattern : ℕ) → ink ≤ 7 → paper ≤ 7
     → lowBytes 6 (ink * spreadWord pattern + paper * (0x010101010101 - spreadWord pattern)) ≡ patternColours ink paper pattern
 six-pixels ink paper pattern hi hp =
     let Small : ℕ → Type 0 = λ (b : ℕ). b < 256 in
@@ -72,6 +72,30 @@ six-pixels ink paper pattern hi hp =
     (low-bytes (patternColours ink paper pattern)
     (each-map Small (patternColour ink paper pattern) patternWeights
     (λ weight m. cond-all Small (bit weight pattern) ink paper (omega arith) (omega arith))))
+
+-- complementing the whole word complements each of its two colours
+complemented-word : (b : Bool) (ink paper n : ℕ) → ink ≤ 7 → paper ≤ 7 → n ≤ 0x010101010101
+    → let word : ℕ → ℕ → ℕ = λ (ink paper : ℕ). ink * n + paper * (0x010101010101 - n) in
+    cond b (0x070707070707 - word ink paper) (word ink paper) ≡ word (cond b (7 - ink) ink) (cond b (7 - paper) paper)
+complemented-word true ink paper n hi hp hn =
+    let rest = 0x010101010101 - n in
+    let both-ink : ink + (7 - ink) ≡ 7 = omega arith in
+    let both-paper : paper + (7 - paper) ≡ 7 = omega arith in
+    omega (
+      arith,
+      sym (add-mul ink (7 - ink) n) ∙ ap (λ (m : ℕ). m * n) both-ink,
+      sym (add-mul paper (7 - paper) rest) ∙ ap (λ (m : ℕ). m * rest) both-paper,
+    )
+complemented-word false ink paper n hi hp hn = refl
+
+-- the six bytes of the word, complemented or not, are the six pixels
+pub complemented-pixels : (byte ink paper pattern : ℕ) → ink ≤ 7 → paper ≤ 7
+    → let word = ink * spreadWord pattern + paper * (0x010101010101 - spreadWord pattern) in
+    lowBytes 6 (cond (bit 128 byte) (0x070707070707 - word) word) ≡ map (complemented byte) (patternColours ink paper pattern)
+complemented-pixels byte ink paper pattern hi hp =
+    ap (lowBytes 6) (complemented-word (bit 128 byte) ink paper (spreadWord pattern) hi hp (spread-most pattern))
+    ∙ six-pixels (complemented byte ink) (complemented byte paper) pattern (complemented-most byte ink hi) (complemented-most byte paper hp)
+    ∙ pattern-map (complemented byte) ink paper pattern patternWeights
 
 -- masking with a 1 in each byte leaves the lowest bit of each
 mask : ℕ → ℕ

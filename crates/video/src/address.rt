@@ -2,10 +2,12 @@
 ghost use mathlib.Core.Path.{_≡_};
 ghost use Prim.Native.Nat.{_<_};
 ghost use Rattle.video.specs.Address.{isHires, isBitmap, screenAddress, characterAddress};
+ghost use Rattle.video.specs.Cell.{sourceOf};
 ghost use Rattle.video.specs.Answer.{addressRefusal, addressAnswer};
 use crate::bits::bit;
 use crate::bits::both;
 use crate::bits::choose_address;
+use crate::registers::Registers;
 use machine::DONE;
 use machine::column_refusal;
 use machine::first_refusal;
@@ -54,7 +56,7 @@ fn address_refusal(line: usize, column: usize, mode: u8) -> u8
     first_refusal(wrong_mode, first_refusal(wrong_line, wrong_column))
 }
 
-pub(crate) fn is_hires(mode: u8) -> bool
+fn is_hires(mode: u8) -> bool
     ensures { λ r. ⌜ r ≡ isHires mode ⌝ }
 {
     bit(4, mode)
@@ -66,7 +68,7 @@ pub(crate) fn is_bitmap(line: usize, mode: u8) -> bool
     both(line < BITMAP_LINES, is_hires(mode))
 }
 
-pub(crate) fn screen_byte_address(line: usize, column: usize, mode: u8) -> usize
+fn screen_byte_address(line: usize, column: usize, mode: u8) -> usize
     requires { ⌜ line < 224 ⌝ }
     requires { ⌜ column < 40 ⌝ }
     ensures { λ r. ⌜ r ≡ screenAddress line column mode ⌝ }
@@ -78,12 +80,29 @@ pub(crate) fn screen_byte_address(line: usize, column: usize, mode: u8) -> usize
     )
 }
 
-pub(crate) fn character_byte_address(line: usize, mode: u8, style: u8, code: usize) -> usize
-    requires { ⌜ code < 128 ⌝ }
-    ensures { λ r. ⌜ r ≡ characterAddress line mode style code ⌝ }
+// Where the row of character 0 is that a line shows.
+fn characters_address(line: usize, mode: u8, style: u8) -> usize
+    ensures { λ r. ⌜ r ≡ characterAddress line mode style 0 ⌝ }
 {
     let set = choose_address(is_hires(mode), HIRES_CHARACTERS, TEXT_CHARACTERS);
     let alternate = choose_address(bit(1, style), ALTERNATE_CHARACTERS, 0);
     let row = choose_address(bit(2, style), line / 2 % 8, line % 8);
-    set + alternate + 8 * code + row
+    set + alternate + row
+}
+
+// Where the cells of a line find their bytes. It follows from the line and the registers, and changes with an attribute only.
+pub(crate) struct Source {
+    // The screen byte at column 0.
+    pub screen: usize,
+    // The row of character 0.
+    pub characters: usize,
+}
+
+pub(crate) fn source_of(line: usize, registers: Registers) -> Source
+    requires { ⌜ line < 224 ⌝ }
+    ensures { λ r. ⌜ r ≡ sourceOf line registers ⌝ }
+{
+    let screen = screen_byte_address(line, 0, registers.mode);
+    let characters = characters_address(line, registers.mode, registers.style);
+    Source { screen, characters }
 }

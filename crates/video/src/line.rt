@@ -6,6 +6,7 @@ ghost use lib.ListN.{length};
 ghost use Rattle.video.specs.Cell.{Cell, pixels};
 ghost use Rattle.video.specs.Line.{lineCells, Sixes};
 ghost use Rattle.video.specs.Answer.{painted, lineRefusal, lineAnswer, lineContents};
+use crate::address::source_of;
 use crate::answer::Painted;
 use crate::answer::painting_refusal;
 use crate::answer::refused;
@@ -56,14 +57,16 @@ fn paint_cells(memory: &[u8], state: State, line: usize, cells: &mut [[u8; 6]; 4
     ensures { λ r. ⌜ now (cells .exit) ≡ map (λ (c : Cell). c .colours) (lineCells (now (memory .entry)) (state .counter) line (state .mode)) ⌝ }
 {
     let mut registers = Registers::carrying(state.mode).line_reset();
+    let mut source = source_of(line, registers);
     let mut screen: u32 = 0;
     let mut character: u32 = 0;
     let mut column: usize = 0;
     while column < COLUMNS {
-        let cell = paint_cell(memory, state.counter, line, column, registers);
+        let cell = paint_cell(memory, state.counter, line, column, registers, source);
         let colours = cell.colours;
         cells[column] = colours;
         registers = cell.registers;
+        source = cell.source;
         screen += 1;
         character += cell.characters;
         column += 1;

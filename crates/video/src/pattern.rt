@@ -1,8 +1,12 @@
-// A pattern of six bits in two colours, six pixels at a time: a byte of a word is a pixel.
+// A pattern of six bits in two colours, complemented or not, six pixels at a time: a byte of a word is a pixel.
 ghost use mathlib.Core.Path.{_≡_};
-ghost use Prim.Native.Nat.{_≤_, _<_};
-ghost use Rattle.video.specs.Registers.{patternColours};
+ghost use mathlib.Core.Bool.{cond};
+ghost use mathlib.Core.List.{map};
+ghost use Prim.Native.Nat.{_≤_, _<_, _-_};
+ghost use Rattle.machine.specs.Bits.{bit as Bits·bit};
+ghost use Rattle.video.specs.Registers.{patternColours, complemented};
 ghost use Rattle.video.specs.Pattern.{lowBytes, spreadWord};
+use crate::bits::bit;
 
 // Six copies of a pattern, nine bits apart: after COPY_SHIFT the lowest bit of each byte is the one of its pixel.
 const COPIES: u64 = 0x201008040201;
@@ -11,14 +15,24 @@ const COPY_SHIFT: u64 = 32;
 
 const ONES: u64 = 0x010101010101;
 
-pub(crate) fn pattern_colours(pattern: u8, ink: u8, paper: u8) -> [u8; 6]
+const WHITES: u64 = 0x070707070707;
+
+pub(crate) fn pattern_colours(pattern: u8, ink: u8, paper: u8, byte: u8) -> [u8; 6]
     requires { ⌜ pattern < 64 ⌝ }
     requires { ⌜ (ink ≤ 7) × (paper ≤ 7) ⌝ }
-    ensures { λ r. ⌜ r ≡ patternColours ink paper pattern ⌝ }
+    ensures { λ r. ⌜ r ≡ map (complemented byte) (patternColours ink paper pattern) ⌝ }
 {
     let set = spread(pattern);
     let word = wide(ink) * set + wide(paper) * (ONES - set);
-    bytes_of(word)
+    bytes_of(complement(byte, word))
+}
+
+// Bit 7 of the screen byte complements all six pixels at once: no byte borrows from the next.
+fn complement(byte: u8, word: u64) -> u64
+    requires { ⌜ word ≤ 0x070707070707 ⌝ }
+    ensures { λ r. ⌜ r ≡ cond (Bits·bit 128 byte) (0x070707070707 - word) word ⌝ }
+{
+    if bit(128, byte) { WHITES - word } else { word }
 }
 
 // 1 in the byte of each pixel that is set, the leftmost pixel in the lowest byte.

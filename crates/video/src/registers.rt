@@ -4,8 +4,6 @@ ghost use mathlib.Core.List.{map};
 ghost use Prim.Native.Nat.{_≤_, _<_};
 ghost use Rattle.video.specs.Registers.{lineStart, isAttribute, latched, shownInk, patternColours, complemented};
 ghost use Rattle.video.specs.Cell.{registersAfter};
-use crate::bits::bit;
-use crate::bits::both;
 use crate::bits::choose;
 use crate::pattern::pattern_colours;
 
@@ -14,6 +12,10 @@ const WHITE: u8 = 7;
 const BLACK: u8 = 0;
 
 const PLAIN: u8 = 0;
+
+// The bit of the style that is flash.
+const FLASH: u8 = 4;
+
 // From this count on flashing ink is hidden.
 const HIDDEN_FROM: u8 = 16;
 
@@ -86,25 +88,14 @@ impl Registers {
         requires { ⌜ pattern < 64 ⌝ }
         ensures { λ r. ⌜ r ≡ map (complemented byte) (patternColours (shownInk self counter) (self .paper) pattern) ⌝ }
     {
-        let ink = complement(byte, self.shown_ink(counter));
-        let paper = complement(byte, self.paper);
-        pattern_colours(pattern, ink, paper)
+        let ink = self.shown_ink(counter);
+        pattern_colours(pattern, ink, self.paper, byte)
     }
 
     fn shown_ink(self, counter: u8) -> u8
         ensures { λ r. ⌜ r ≡ shownInk self counter ⌝ }
     {
-        choose(
-            both(bit(4, self.style), counter >= HIDDEN_FROM),
-            self.paper,
-            self.ink,
-        )
+        let hidden = choose(counter >= HIDDEN_FROM, FLASH, 0);
+        choose(self.style & hidden != 0, self.paper, self.ink)
     }
-}
-
-fn complement(byte: u8, colour: u8) -> u8
-    requires { ⌜ colour ≤ 7 ⌝ }
-    ensures { λ r. ⌜ r ≡ complemented byte colour ⌝ }
-{
-    choose(bit(128, byte), WHITE - colour, colour)
 }

@@ -9,11 +9,12 @@ use lib.ListN.{length, take, set, length-set}
 use lib.Seq.{take-suc-set, take-all}
 use Rattle.machine.specs.Lists.{gather}
 use Rattle.video.specs.Answer.{painted}
-use Rattle.video.specs.Cell.{Cell, cell, paintedCell, screenAddresses, characterAddresses}
+use Rattle.video.specs.Cell.{Cell, cell, paintedCell, sourceOf, screenAddresses, characterAddresses}
 use Rattle.video.specs.Line.{registersBefore, cellAt, firstCells, lineCells}
 use Rattle.video.specs.Registers.{lineStart}
 use Rattle.video.proofs.Lines.{cells-next, registers-next, mode-after}
 use Rattle.video.proofs.Readings.{screens-one, characters-one}
+use Rattle.video.specs.declared.address.Source.{Source}
 use Rattle.video.specs.declared.answer.Painted.{Painted}
 use Rattle.video.specs.declared.cell.PaintedCell.{PaintedCell}
 use Rattle.video.specs.declared.registers.Registers.{Registers}
@@ -25,23 +26,25 @@ module _ (memory : List ℕ) (counter line mode : ℕ) where
   abbrev first : ℕ → List Cell
   first = firstCells memory counter line mode
 
-  pub record Reached (cells : List (List ℕ)) (registers : Registers) (screen character column : ℕ) : Type 0 where
+  pub record Reached (cells : List (List ℕ)) (registers : Registers) (source : Source) (screen character column : ℕ) : Type 0 where
     pub within : column ≤ 40
     pub size : length cells ≡ 40
     pub filled : take column cells ≡ colours (first column)
     pub path : registers ≡ registersBefore memory line mode column
+    pub found : source ≡ sourceOf line registers
     pub screens : screen ≡ length (screenAddresses (first column))
     pub characters : character ≡ length (characterAddresses (first column))
 
-  pub none : (cells : List (List ℕ)) (registers : Registers) → length cells ≡ 40 → registers ≡ lineStart mode → Reached cells registers 0 0 0
+  pub none : (cells : List (List ℕ)) (registers : Registers) (source : Source) → length cells ≡ 40 → registers ≡ lineStart mode → source ≡ sourceOf line registers
+      → Reached cells registers source 0 0 0
   unfolding firstCells gather registersBefore screenAddresses characterAddresses flatMap
-  none cells registers size e =
-      record { within = omega arith; size = size; filled = refl; path = e; screens = refl; characters = refl }
+  none cells registers source size e found =
+      record { within = omega arith; size = size; filled = refl; path = e; found = found; screens = refl; characters = refl }
 
-  module _ (cells : List (List ℕ)) (registers : Registers) (screen character column : ℕ) (here : Reached cells registers screen character column) where
+  module _ (cells : List (List ℕ)) (registers : Registers) (source : Source) (screen character column : ℕ) (here : Reached cells registers source screen character column) where
     pub next : column < 40 → (answer : PaintedCell) → answer ≡ paintedCell (cell memory counter line column registers)
-        → Reached (set cells column (answer .colours)) (answer .registers) (screen + 1) (character + answer .characters) (column + 1)
-    unfolding cellAt
+        → Reached (set cells column (answer .colours)) (answer .registers) (answer .source) (screen + 1) (character + answer .characters) (column + 1)
+    unfolding cellAt cell
     next more answer e =
         let x = cellAt memory counter line mode column in
         let is : answer ≡ paintedCell x = e ∙ ap (λ (r : Registers). paintedCell (cell memory counter line column r)) (here .path) in
@@ -54,6 +57,7 @@ module _ (memory : List ℕ) (counter line mode : ℕ) where
               ∙ ap₂ (λ (l : List (List ℕ)) (a : PaintedCell). l ++ (a .colours ∷ [])) (here .filled) is
               ∙ simp (grown, map-append);
           path = ap (λ (a : PaintedCell). a .registers) is ∙ sym (registers-next memory counter line mode column);
+          found = rw is refl;
           screens = ap (λ (n : ℕ). n + 1) (here .screens) ∙ sym (ap (λ (l : List Cell). length (screenAddresses l)) grown ∙ screens-one (first column) x);
           characters =
               ap₂ (λ (n : ℕ) (a : PaintedCell). n + a .characters) (here .characters) is

@@ -1,8 +1,9 @@
--- `video::address::character_byte_address` meets its contract, by what the three choices ensure.
+-- `video::address::characters_address` meets its contract, by what the three choices ensure.
 -- Assumes nothing.
 use borrow.Author.Needs.{needs}
-use Rattle.video.proofs.address.character_byte_address.Statement.{statement}
-use Rattle.video.proofs.address.character_byte_address.Tie as tie
+use Rattle.video.proofs.Addresses.{first-character}
+use Rattle.video.proofs.address.characters_address.Statement.{statement}
+use Rattle.video.proofs.address.characters_address.Tie as tie
 
 is-hires-requires : tie.Need-is-hires-requires
 is-hires-requires c κs = search needs
@@ -25,20 +26,16 @@ choose-address-requires-3 c κs = search needs
 add-result : tie.Need-add-result
 add-result c = search needs
 
-mul-result : tie.Need-mul-result
-mul-result c = search needs
-
 add-result-2 : tie.Need-add-result-2
 add-result-2 c = search needs
 
-add-result-3 : tie.Need-add-result-3
-add-result-3 c = search needs
-
 returns : tie.Need-returns
-returns c = cc
+returns c =
+    let a = c .before .before .before .before .before .before .args in
+    cc (first-character (a .line) (a .mode) (a .style))
 
-pub character-byte-address-spec : {M : Type 1} → statement M
-character-byte-address-spec =
+pub characters-address-spec : {M : Type 1} → statement M
+characters-address-spec =
     tie.close
     (tie.spec
     is-hires-requires
@@ -48,7 +45,5 @@ character-byte-address-spec =
     bit-requires-2
     choose-address-requires-3
     add-result
-    mul-result
     add-result-2
-    add-result-3
     returns)
