@@ -277,8 +277,8 @@ fn a_read_refused_wrongly() {
     tally.print("read");
 }
 
-#[test]
-fn a_write_refused_wrongly_or_not_left_alone() {
+/// Tries a form of write with every pair of bad inputs.
+fn refuse_writes(name: &str, write: impl Fn(&mut [u8], Latches, u16, u8) -> Written) {
     let untouched = random_bytes();
     let mut memory = untouched.clone();
     let mut tally = Tally::default();
@@ -287,7 +287,7 @@ fn a_write_refused_wrongly_or_not_left_alone() {
             for address in ADDRESSES {
                 let number = due(&[first, seventh]);
                 let byte = !untouched[usize::from(address)];
-                let answer = calls::write(&mut memory[..length], latches, address, byte);
+                let answer = write(&mut memory[..length], latches, address, byte);
                 let refused = Written {
                     status: number,
                     target: 0,
@@ -310,42 +310,27 @@ fn a_write_refused_wrongly_or_not_left_alone() {
             }
         }
     }
-    tally.print("write");
+    tally.print(name);
+}
+
+#[test]
+fn a_write_refused_wrongly_or_not_left_alone() {
+    refuse_writes("write", calls::write);
 }
 
 #[test]
 fn a_write_in_place_refused_wrongly_or_not_left_alone() {
-    let untouched = random_bytes();
-    let mut memory = untouched.clone();
-    let mut tally = Tally::default();
-    for (length, first) in MEMORIES {
-        for (latches, seventh) in all_latches() {
-            for address in ADDRESSES {
-                let number = due(&[first, seventh]);
-                let byte = !untouched[usize::from(address)];
-                let mut record = latches;
-                let answer =
-                    calls::write_in_place(&mut memory[..length], &mut record, address, byte);
-                if number == 0 {
-                    assert_eq!(answer.status, 0, "{length} bytes, {latches:?}");
-                    memory[usize::from(address)] = untouched[usize::from(address)];
-                } else {
-                    assert_eq!(
-                        answer,
-                        refused_access(number),
-                        "{length} bytes, {latches:?}"
-                    );
-                    assert_eq!(record, latches, "{length} bytes");
-                }
-                assert_eq!(
-                    memory, untouched,
-                    "{length} bytes, {latches:?}, {address:04x}"
-                );
-                tally.count(answer.status);
-            }
+    refuse_writes("write_in_place", |memory, latches, address, byte| {
+        let mut record = latches;
+        let answer = calls::write_in_place(memory, &mut record, address, byte);
+        Written {
+            status: answer.status,
+            target: answer.target,
+            number: answer.number,
+            byte: answer.byte,
+            latches: record,
         }
-    }
-    tally.print("write_in_place");
+    });
 }
 
 #[test]
