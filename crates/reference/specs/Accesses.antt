@@ -4,7 +4,7 @@ use Prim.Native.Nat.{ℕ}
 use mathlib.Core.Bool.{cond}
 use mathlib.Core.List.{List, [], _∷_, _++_}
 use mathlib.Core.Option.{Option, none, some}
-use lib.Dec.{ltb}
+use Rattle.machine.specs.Refusal.{kindCheck}
 use Rattle.bus.specs.Latch.{latched}
 use Rattle.bus.specs.Place.{place}
 use Rattle.bus.specs.Cycle.{isMemory, writeContents, writeLatches}
@@ -29,19 +29,19 @@ pub record Board : Type 0 where
   pub memory : List ℕ
   pub latches : Latches
 
--- the board after an access, by the definitions that the contracts of read, write and write_in_place cite
+-- the board after a write in either form, by the definitions that the contracts of write and write_in_place cite
+abbrev pub wrote : ℕ → ℕ → Board → Board
+wrote address byte board =
+    record {
+      memory = writeContents (board .memory) (board .latches) address byte;
+      latches = writeLatches (board .memory) (board .latches) address byte;
+    }
+
+-- the board after an access; a read is lent the memory only to be read, and takes the latches by value
 abbrev pub acted : Action → Board → Board
 acted (read address) board = board
-acted (write address byte) board =
-    record {
-      memory = writeContents (board .memory) (board .latches) address byte;
-      latches = writeLatches (board .memory) (board .latches) address byte;
-    }
-acted (writeInPlace address byte) board =
-    record {
-      memory = writeContents (board .memory) (board .latches) address byte;
-      latches = writeLatches (board .memory) (board .latches) address byte;
-    }
+acted (write address byte) board = wrote address byte board
+acted (writeInPlace address byte) board = wrote address byte board
 
 -- the board after the whole list
 abbrev pub boardAfter : Board → List Step → Board
@@ -52,7 +52,7 @@ boardAfter board (step ∷ steps) =
 -- where a write stores, by the decode rules: nowhere if its kind is refused or its target is neither 0 nor 4
 abbrev pub writeStores : Latches → ℕ → List ℕ
 writeStores latches address =
-    cond (ltb 2 (latches .kind)) [] (cond (isMemory (place latches address)) (place latches address .number ∷ []) [])
+    cond (kindCheck (latches .kind) .applies) [] (cond (isMemory (place latches address)) (place latches address .number ∷ []) [])
 
 -- where an access stores (document 01: stores)
 abbrev pub actionStores : Latches → Action → List ℕ
@@ -62,7 +62,7 @@ actionStores latches (writeInPlace address byte) = writeStores latches address
 
 -- the latches that the rules give after a write: as they were if its kind is refused
 abbrev pub writeLatched : Latches → ℕ → ℕ → Latches
-writeLatched latches address byte = cond (ltb 2 (latches .kind)) latches (latched latches address byte)
+writeLatched latches address byte = cond (kindCheck (latches .kind) .applies) latches (latched latches address byte)
 
 abbrev pub actionLatches : Latches → Action → Latches
 actionLatches latches (read address) = latches
