@@ -4,7 +4,7 @@
  * Two halves. The video half says where a screen byte stands and paints lines
  * and frames from a RAM image. The bus half says what answers at an address
  * and reads and writes over it. Link with libreference.a (x86-64 Linux), which
- * needs nothing beyond the C library.
+ * needs the C library's memcpy and nothing else.
  *
  *   cc -std=c11 -I include program.c target/staticlib/libreference.a
  *

@@ -19,6 +19,17 @@ cond-all P false x y px py = py
 pub cond-most : (b : Bool) (x y : ℕ) {most : ℕ} → x ≤ most → y ≤ most → cond b x y ≤ most
 cond-most b x y {most} = cond-all (λ (n : ℕ). n ≤ most) b x y
 
+-- one choice inside another
+pub cond-and : (inner outer : Bool) (x y z : ℕ) → cond outer (cond inner x y) z ≡ cond (inner && outer) x (cond outer y z)
+cond-and true true x y z = refl
+cond-and true false x y z = refl
+cond-and false true x y z = refl
+cond-and false false x y z = refl
+
+pub cond-same : (b : Bool) (x : ℕ) → cond b x x ≡ x
+cond-same true x = refl
+cond-same false x = refl
+
 cond-map : (f : ℕ → ℕ) (b : Bool) (x y : ℕ) → cond b (f x) (f y) ≡ f (cond b x y)
 cond-map f true x y = refl
 cond-map f false x y = refl

@@ -1,6 +1,6 @@
 -- The registers' path along a line, and the counts of its first n cells, by induction on n.
 -- Assumes nothing.
-use Prim.Native.Nat.{ℕ, zero, suc, _+_, _*_, _≤_}
+use Prim.Native.Nat.{ℕ, zero, suc, _+_, _*_, _≤_, _<_}
 use mathlib.Core.List.{List, [], _∷_, _++_, map, map-append, flatMap, flatten}
 use mathlib.Core.Path.{_≡_, refl, ap, _∙_}
 use native.Mathlib.Numerals.{add-one}
@@ -11,9 +11,13 @@ use borrow.Author.Count.{below-more}
 use Rattle.machine.specs.Lists.{gather}
 use Rattle.machine.proofs.Lists.{gather-next}
 use Rattle.video.specs.Cell.{Cell, cell, screenByte, pixels, screenAddresses, characterAddresses, modeLeft}
-use Rattle.video.specs.Line.{registersBefore, cellAt, firstCells, Sixes}
-use Rattle.video.proofs.Cells.{Coloured, after-coloured, cell-six}
+use Rattle.video.specs.Line.{registersBefore, cellAt, firstCells}
+use Rattle.video.proofs.Cells.{Coloured, after-coloured, after-fits, cell-six}
 use Rattle.video.proofs.Readings.{modeLeft-append, screens-one, characters-one, pixels-one, one-at-most}
+
+-- n cells of six colours
+abbrev pub Sixes : List (List ℕ) → ℕ → Type 0
+Sixes cells n = (length cells ≡ n) × ((column : ℕ) → column < n → length (getD cells column []) ≡ 6)
 
 module _ (memory : List ℕ) (counter line mode : ℕ) where
   pub cells-next : (n : ℕ) → firstCells memory counter line mode (n + 1) ≡ firstCells memory counter line mode n ++ (cellAt memory counter line mode n ∷ [])
@@ -31,6 +35,14 @@ module _ (memory : List ℕ) (counter line mode : ℕ) where
   registers-coloured (suc n) =
       let before = registersBefore memory line mode n in
       after-coloured before (screenByte memory line n (before .mode)) (registers-coloured n)
+
+  -- the mode is a byte where it was one before the line
+  pub mode-fits : mode < 256 → (n : ℕ) → registersBefore memory line mode n .mode < 256
+  unfolding registersBefore
+  mode-fits h zero = h
+  mode-fits h (suc n) =
+      let before = registersBefore memory line mode n in
+      after-fits before (screenByte memory line n (before .mode)) (mode-fits h n)
 
   pub mode-after : (n : ℕ) → modeLeft mode (firstCells memory counter line mode n) ≡ registersBefore memory line mode n .mode
   unfolding firstCells gather modeLeft registersBefore cellAt cell

@@ -7,9 +7,6 @@ use mathlib.Core.Option.{Option, none, some}
 use lib.ListN.{getD, length, replicate}
 use Rattle.video.specs.Address.{isBitmap, screenAddress, characterAddress}
 use Rattle.video.specs.Registers.{isAttribute, latched, shownInk, patternColours, complemented}
-use Rattle.video.specs.declared.address.Source.{Source}
-use Rattle.video.specs.declared.cell.PaintedCell.{PaintedCell}
-use Rattle.video.specs.declared.cell.Shown.{Shown}
 use Rattle.video.specs.declared.registers.Registers.{Registers}
 
 -- the screen byte of a cell; the mode is the one in force, before the byte is read
@@ -58,36 +55,6 @@ cell memory counter line column before =
       character = characterUsed line before byte;
       colours = coloursOf memory counter line before byte;
       registers = registersAfter before byte;
-    }
-
--- where the program finds the bytes of a line's cells: from column 0 and from character 0 on
-abbrev pub sourceOf : ℕ → Registers → Source
-sourceOf line registers =
-    record {
-      screen = screenAddress line 0 (registers .mode);
-      characters = characterAddress line (registers .mode) (registers .style) 0;
-    }
-
--- the pattern of a picture that the program finds from its source
-abbrev pub foundBy : List ℕ → Bool → Source → ℕ → ℕ
-foundBy memory bitmap source byte = cond bitmap (byte % 64) (getD memory (source .characters + 8 * (byte % 128)) 0 % 64)
-
--- the pattern that the program paints with the registers that the cell leaves, 0 for an attribute, and the character bytes used
-abbrev pub shownBy : List ℕ → Bool → Source → ℕ → Shown
-shownBy memory bitmap source byte =
-    record {
-      pattern = cond (isAttribute byte) 0 (foundBy memory bitmap source byte);
-      characters = cond (isAttribute byte || bitmap) 0 1;
-    }
-
--- what the program hands back of a cell
-abbrev pub paintedCell : Cell → PaintedCell
-paintedCell c =
-    record {
-      registers = c .registers;
-      source = sourceOf (c .line) (c .registers);
-      colours = c .colours;
-      characters = length (Option·toList (c .character));
     }
 
 -- the pixels of cells, in order

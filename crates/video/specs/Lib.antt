@@ -3,6 +3,7 @@ pub mod Address
 pub mod Registers
 pub mod Pattern
 pub mod Cell
+pub mod Painting
 pub mod Line
 pub mod Frame
 pub mod Answer

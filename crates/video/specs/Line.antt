@@ -1,9 +1,7 @@
 -- A line: the registers' path along it, and its forty cells from left to right.
 -- Assumes nothing.
-use Prim.Native.Nat.{ℕ, zero, suc, _<_}
+use Prim.Native.Nat.{ℕ, zero, suc}
 use mathlib.Core.List.{List, [], _∷_}
-use mathlib.Core.Path.{_≡_}
-use lib.ListN.{length, getD}
 use Rattle.machine.specs.Lists.{gather}
 use Rattle.video.specs.Cell.{Cell, cell, screenByte, registersAfter}
 use Rattle.video.specs.Registers.{lineStart}
@@ -27,10 +25,6 @@ firstCells memory counter line mode n = gather (λ (column : ℕ). cellAt memory
 -- a line is forty cells
 abbrev pub lineCells : List ℕ → ℕ → ℕ → ℕ → List Cell
 lineCells memory counter line mode = firstCells memory counter line mode 40
-
--- n cells of six colours
-abbrev pub Sixes : List (List ℕ) → ℕ → Type 0
-Sixes cells n = (length cells ≡ n) × ((column : ℕ) → column < n → length (getD cells column []) ≡ 6)
 
 -- the mode that a line leaves
 abbrev pub modeAfterLine : List ℕ → ℕ → ℕ → ℕ

@@ -1,12 +1,13 @@
 // Where the bytes of a cell are.
 ghost use mathlib.Core.Path.{_≡_};
 ghost use Prim.Native.Nat.{_<_};
-ghost use Rattle.video.specs.Address.{isHires, isBitmap, screenAddress, characterAddress};
-ghost use Rattle.video.specs.Cell.{sourceOf};
+ghost use lib.Dec.{ltb};
+ghost use Rattle.video.specs.Address.{isHires, screenAddress};
+ghost use Rattle.video.specs.Painting.{charactersFrom, sourceOf};
 ghost use Rattle.video.specs.Answer.{addressRefusal, addressAnswer};
 use crate::bits::bit;
-use crate::bits::both;
 use crate::bits::choose_address;
+use crate::bits::wide;
 use crate::registers::Registers;
 use machine::DONE;
 use machine::column_refusal;
@@ -43,7 +44,7 @@ pub fn screen_address(line: usize, column: usize, mode: u8) -> ScreenAddress
     }
     ScreenAddress {
         status,
-        address: screen_byte_address(line, column, mode) as u16,
+        address: screen_byte_address(line, column, wide(mode)) as u16,
     }
 }
 
@@ -56,35 +57,29 @@ fn address_refusal(line: usize, column: usize, mode: u8) -> u8
     first_refusal(wrong_mode, first_refusal(wrong_line, wrong_column))
 }
 
-fn is_hires(mode: u8) -> bool
+fn is_hires(mode: u64) -> bool
     ensures { λ r. ⌜ r ≡ isHires mode ⌝ }
 {
     bit(4, mode)
 }
 
-pub(crate) fn is_bitmap(line: usize, mode: u8) -> bool
-    ensures { λ r. ⌜ r ≡ isBitmap line mode ⌝ }
-{
-    both(line < BITMAP_LINES, is_hires(mode))
-}
-
-fn screen_byte_address(line: usize, column: usize, mode: u8) -> usize
+fn screen_byte_address(line: usize, column: usize, mode: u64) -> usize
     requires { ⌜ line < 224 ⌝ }
     requires { ⌜ column < 40 ⌝ }
     ensures { λ r. ⌜ r ≡ screenAddress line column mode ⌝ }
 {
-    choose_address(
-        is_bitmap(line, mode),
-        BITMAP + 40 * line + column,
-        TEXT_SCREEN + 40 * (line / 8) + column,
-    )
+    let text = TEXT_SCREEN + 40 * (line / 8) + column;
+    let bitmap = BITMAP + 40 * line + column;
+    let hires = choose_address(line < BITMAP_LINES, bitmap, text);
+    choose_address(is_hires(mode), hires, text)
 }
 
-// Where the row of character 0 is that a line shows.
-fn characters_address(line: usize, mode: u8, style: u8) -> usize
-    ensures { λ r. ⌜ r ≡ characterAddress line mode style 0 ⌝ }
+// Where the row of character 0 is that a line shows, counted from 0 where it shows a bitmap.
+fn characters_address(line: usize, mode: u64, style: u64) -> usize
+    ensures { λ r. ⌜ r ≡ charactersFrom line mode style ⌝ }
 {
-    let set = choose_address(is_hires(mode), HIRES_CHARACTERS, TEXT_CHARACTERS);
+    let hires_set = choose_address(line < BITMAP_LINES, 0, HIRES_CHARACTERS);
+    let set = choose_address(is_hires(mode), hires_set, TEXT_CHARACTERS);
     let alternate = choose_address(bit(1, style), ALTERNATE_CHARACTERS, 0);
     let row = choose_address(bit(2, style), line / 2 % 8, line % 8);
     set + alternate + row
@@ -94,7 +89,7 @@ fn characters_address(line: usize, mode: u8, style: u8) -> usize
 pub(crate) struct Source {
     // The screen byte at column 0.
     pub screen: usize,
-    // The row of character 0.
+    // The row of character 0, below every character set where the bytes are themselves patterns.
     pub characters: usize,
 }
 
@@ -105,4 +100,12 @@ pub(crate) fn source_of(line: usize, registers: Registers) -> Source
     let screen = screen_byte_address(line, 0, registers.mode);
     let characters = characters_address(line, registers.mode, registers.style);
     Source { screen, characters }
+}
+
+impl Source {
+    pub(crate) fn is_bitmap(self) -> bool
+        ensures { λ r. ⌜ r ≡ ltb (self .characters) 0x9800 ⌝ }
+    {
+        self.characters < HIRES_CHARACTERS
+    }
 }

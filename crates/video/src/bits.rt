@@ -1,24 +1,25 @@
 // Tests and choices without a branch in the caller.
 ghost use mathlib.Core.Path.{_≡_};
-ghost use mathlib.Core.Bool.{cond, _&&_};
+ghost use mathlib.Core.Bool.{cond};
 ghost use Prim.Native.Nat.{_<_, _≤_, max};
 ghost use Rattle.machine.specs.Bits.{bit as Bits·bit};
 
+// A byte as a word. What a loop carries is in words: values of a few bytes would be packed and unpacked in each turn.
+pub(crate) fn wide(byte: u8) -> u64
+    ensures { λ r. ⌜ r ≡ byte ⌝ }
+{
+    byte as u64
+}
+
 // Whether the bit of a weight is set: 128 is bit 7.
-pub(crate) fn bit(weight: u8, byte: u8) -> bool
+pub(crate) fn bit(weight: u64, value: u64) -> bool
     requires { ⌜ 0 < weight ⌝ }
-    ensures { λ r. ⌜ r ≡ Bits·bit weight byte ⌝ }
+    ensures { λ r. ⌜ r ≡ Bits·bit weight value ⌝ }
 {
-    byte / weight % 2 == 1
+    value / weight % 2 == 1
 }
 
-pub(crate) fn both(a: bool, b: bool) -> bool
-    ensures { λ r. ⌜ r ≡ (a && b) ⌝ }
-{
-    a && b
-}
-
-pub(crate) fn choose(test: bool, yes: u8, no: u8) -> u8
+pub(crate) fn choose(test: bool, yes: u64, no: u64) -> u64
     ensures { λ r. ⌜ r ≡ cond test yes no ⌝ }
 {
     if test { yes } else { no }

@@ -1,29 +1,28 @@
 // The four registers of the video half: they travel along a line as one value.
 ghost use mathlib.Core.Path.{_≡_};
-ghost use mathlib.Core.List.{map};
-ghost use Prim.Native.Nat.{_≤_, _<_};
-ghost use Rattle.video.specs.Registers.{lineStart, isAttribute, latched, shownInk, patternColours, complemented};
-ghost use Rattle.video.specs.Cell.{registersAfter};
+ghost use Rattle.video.specs.Painting.{paintOf};
+ghost use Rattle.video.specs.Registers.{lineStart, isAttribute, latched, shownInk};
 use crate::bits::choose;
-use crate::pattern::pattern_colours;
+use crate::bits::wide;
+use crate::pattern::Paint;
 
-const WHITE: u8 = 7;
+const WHITE: u64 = 7;
 
-const BLACK: u8 = 0;
+const BLACK: u64 = 0;
 
-const PLAIN: u8 = 0;
+const PLAIN: u64 = 0;
 
 // The bit of the style that is flash.
-const FLASH: u8 = 4;
+const FLASH: u64 = 4;
 
 // From this count on flashing ink is hidden.
 const HIDDEN_FROM: u8 = 16;
 
 pub(crate) struct Registers {
-    pub ink: u8,
-    pub style: u8,
-    pub paper: u8,
-    pub mode: u8,
+    pub ink: u64,
+    pub style: u64,
+    pub paper: u64,
+    pub mode: u64,
 }
 
 pub(crate) fn is_attribute(byte: u8) -> bool
@@ -34,7 +33,7 @@ pub(crate) fn is_attribute(byte: u8) -> bool
 
 impl Registers {
     // A mode that is carried over; the line reset sets the rest.
-    pub(crate) fn carrying(mode: u8) -> Self
+    pub(crate) fn carrying(mode: u64) -> Self
         ensures { λ r. ⌜ r .mode ≡ mode ⌝ }
     {
         Self {
@@ -56,43 +55,47 @@ impl Registers {
         }
     }
 
-    // The registers that a screen byte leaves: an attribute changes one.
-    pub(crate) fn after_byte(self, byte: u8) -> Self
-        ensures { λ r. ⌜ r ≡ registersAfter self byte ⌝ }
-    {
-        if is_attribute(byte) {
-            self.latch_attribute(byte)
-        } else {
-            self
-        }
-    }
-
+    // The low five bits choose the register, the low three are its value. A match for each register compiles to no jump.
     pub(crate) fn latch_attribute(self, byte: u8) -> Self
         ensures { λ r. ⌜ r ≡ latched self byte ⌝ }
     {
         let choice = byte % 32;
-        let value = byte % 8;
-        let mut after = self;
-        match choice {
-            0..=7 => after.ink = value,
-            8..=15 => after.style = value,
-            16..=23 => after.paper = value,
-            _ => after.mode = value,
+        let value = wide(byte % 8);
+        let ink = match choice {
+            0..=7 => value,
+            _ => self.ink,
+        };
+        let style = match choice {
+            8..=15 => value,
+            _ => self.style,
+        };
+        let paper = match choice {
+            16..=23 => value,
+            _ => self.paper,
+        };
+        let mode = match choice {
+            0..=23 => self.mode,
+            _ => value,
+        };
+        Self {
+            ink,
+            style,
+            paper,
+            mode,
         }
-        after
     }
 
-    // The six colours of a pattern: flash first, inverse last.
-    pub(crate) fn paint_colours(self, pattern: u8, byte: u8, counter: u8) -> [u8; 6]
-        requires { ⌜ (self .ink ≤ 7) × (self .paper ≤ 7) ⌝ }
-        requires { ⌜ pattern < 64 ⌝ }
-        ensures { λ r. ⌜ r ≡ map (complemented byte) (patternColours (shownInk self counter) (self .paper) pattern) ⌝ }
+    // The colours that cells are painted in: ink as it shows at a count, and paper.
+    pub(crate) fn paint_colours(self, counter: u8) -> Paint
+        ensures { λ r. ⌜ r ≡ paintOf self counter ⌝ }
     {
-        let ink = self.shown_ink(counter);
-        pattern_colours(pattern, ink, self.paper, byte)
+        Paint {
+            ink: self.shown_ink(counter),
+            paper: self.paper,
+        }
     }
 
-    fn shown_ink(self, counter: u8) -> u8
+    fn shown_ink(self, counter: u8) -> u64
         ensures { λ r. ⌜ r ≡ shownInk self counter ⌝ }
     {
         let hidden = choose(counter >= HIDDEN_FROM, FLASH, 0);

@@ -1,7 +1,7 @@
 -- `video::screen_address` meets its contract: refused or not by the status, and the address fits since it is below C000.
 -- Assumes nothing.
 use Prim.Native.Nat.{_<_}
-use mathlib.Core.Path.{sym, _∙_}
+use mathlib.Core.Path.{_≡_, sym, ap, _∙_}
 use native.Mathlib.Omega.{arith}
 use borrow.Author.Needs.{needs}
 use Rattle.machine.proofs.Refusals.{done, refused}
@@ -25,22 +25,42 @@ returns c =
 accepted : (c : tie.Else1) → (c .before .before .args .line < 224) × (c .before .before .args .column < 40)
 accepted c = accepted-address _ _ (c .before .before .args .mode) (sym (c .before .address-refusal .ensures) ∙ c .if1 .left)
 
-screen-byte-address-requires : tie.Need-screen-byte-address-requires
-screen-byte-address-requires c κs = accepted c
+wide-requires : tie.Need-wide-requires
+wide-requires c κs = search needs
 
-cast-t7 : tie.Need-cast-t7
-cast-t7 c =
-    let a = c .before .before .before .args in
-    let below = screen-below (a .line) (a .column) (a .mode) (accepted (c .before) .0) (accepted (c .before) .1) in
-    omega (arith, below, c .screen-byte-address .ensures)
+screen-byte-address-requires : tie.Need-screen-byte-address-requires
+screen-byte-address-requires c κs = accepted (c .before)
+
+-- the address is that of the mode as it was given
+address : (k : tie.After-screen-byte-address)
+    → let a = k .before .before .before .before .args in
+    k .screen-byte-address .result ≡ screenAddress (a .line) (a .column) (a .mode)
+address k =
+    let a = k .before .before .before .before .args in
+    k .screen-byte-address .ensures ∙ ap (screenAddress (a .line) (a .column)) (k .before .wide .ensures)
+
+cast-t8 : tie.Need-cast-t8
+cast-t8 c =
+    let a = c .before .before .before .before .args in
+    let known = accepted (c .before .before) in
+    omega (arith, screen-below (a .line) (a .column) (a .mode) (known .0) (known .1), address c)
 
 returns-2 : tie.Need-returns-2
 returns-2 c =
-    let a = c .before .before .before .args in
-    cc (done (addressRefusal (a .line) (a .column) (a .mode)) (screenAddress (a .line) (a .column) (a .mode)) 0
-    (sym (c .before .before .address-refusal .ensures) ∙ c .before .if1 .left))
+    let a = c .before .before .before .before .args in
+    cc (
+      address c,
+      done (addressRefusal (a .line) (a .column) (a .mode)) (screenAddress (a .line) (a .column) (a .mode)) 0
+          (sym (c .before .before .before .address-refusal .ensures) ∙ c .before .before .if1 .left),
+    )
 
 pub screen-address-spec : {M : Type 1} → statement M
 screen-address-spec =
     tie.close
-    (tie.spec address-refusal-requires returns screen-byte-address-requires cast-t7 returns-2)
+    (tie.spec
+    address-refusal-requires
+    returns
+    wide-requires
+    screen-byte-address-requires
+    cast-t8
+    returns-2)

@@ -1,33 +1,156 @@
 -- `video::line::fill_line` meets its contract: the pixels are the joined colours of the line's cells.
+-- The loops' invariants: the pixels up to a column, and up to one of its six, are those of the cells.
 -- Assumes nothing.
-use mathlib.Core.List.{flatten}
-use mathlib.Core.Path.{ap, _∙_}
+use Prim.Native.Nat.{ℕ, _≤_, _<_, _+_, _-_, _*_}
+use mathlib.Core.List.{List, [], _∷_, _++_, append-nil, append-assoc, flatten}
+use mathlib.Core.Path.{_≡_, refl, sym, ap, ap₂, _∙_}
+use native.Mathlib.Numerals.{add-one}
+use native.Mathlib.Omega.{arith}
+use lib.ListN.{length, take, getD, length-set}
+use lib.Seq.{take-suc, take-suc-set, take-all}
 use denote.Ref.{now}
 use borrow.Author.Needs.{needs}
+use Rattle.machine.proofs.Lists.{flatten-append}
 use Rattle.video.specs.Cell.{pixels}
-use Rattle.video.proofs.Lines.{sixes}
+use Rattle.video.proofs.Lines.{Sixes, sixes}
 use Rattle.video.proofs.line.fill_line.Statement.{statement}
 use Rattle.video.proofs.line.fill_line.Tie as tie
 
-paint-cells-requires : tie.Need-paint-cells-requires
+flatten-next : (cells : List (List ℕ)) (column : ℕ) → column < length cells
+    → flatten (take (column + 1) cells) ≡ flatten (take column cells) ++ getD cells column []
+unfolding flatten
+flatten-next cells column h =
+    simp (add-one, take-suc cells column [] h, flatten-append (take column cells) (getD cells column [] ∷ []), append-nil)
+
+abbrev Inv-loop2 : tie.InvT-loop2
+Inv-loop2 memory line output₀ cells answer column from k₀ output k =
+    (k ≤ 6) × (length output ≡ 240) × (take (from + k) output ≡ flatten (take column cells) ++ take k (getD cells column []))
+
+abbrev μ-loop2 : tie.MeasureT-loop2
+μ-loop2 memory line output₀ cells answer column from k₀ output k = 6 - k
+
+abbrev Inv-loop : tie.InvT-loop
+Inv-loop memory line output₀ cells answer column₀ output column =
+    (column ≤ 40) × (length output ≡ 240) × (take (6 * column) output ≡ flatten (take column cells))
+
+abbrev μ-loop : tie.MeasureT-loop
+μ-loop memory line output₀ cells answer column₀ output column = 40 - column
+
+paint-cells-requires : tie.Need-paint-cells-requires Inv-loop2 μ-loop2 Inv-loop μ-loop
 paint-cells-requires c κs = search needs
 
-join-cells-requires : tie.Need-join-cells-requires
-join-cells-requires c κs =
-    let start = c .before .before .before .before .before .before in
-    let a = start .args in (
-      rw (c .before .before .paint-cells .ensures .1) (sixes (now (a .memory)) (a .state .counter) (a .line) (a .state .mode) 40),
-      start .pre .1 .0,
+-- the cells are forty times six colours
+six : (k : tie.After-paint-cells Inv-loop2 μ-loop2 Inv-loop μ-loop) → Sixes (k .paint-cells .last .1 .1 .1 .0) 40
+six k =
+    let a = k .before .before .before .before .args in
+    rw (k .paint-cells .ensures .1) (sixes (now (a .memory)) (a .state .counter) (a .line) (a .state .mode) 40)
+
+loop-holds : tie.Need-loop-holds Inv-loop2 μ-loop2 Inv-loop μ-loop
+unfolding flatten
+loop-holds c = (omega arith, c .before .before .before .before .pre .1 .0, refl)
+
+mul-from : tie.Need-mul-from Inv-loop2 μ-loop2 Inv-loop μ-loop
+mul-from c = omega arith
+
+loop2-holds : tie.Need-loop2-holds Inv-loop2 μ-loop2 Inv-loop μ-loop
+loop2-holds c =
+    let here = c .before .loop in
+    let place : 6 * here .column + 0 ≡ 6 * here .column = omega arith in
+    (omega arith, here .inv .1, rw place (simp append-nil (here .inv .2)))
+
+mul-output : tie.Need-mul-output Inv-loop2 μ-loop2 Inv-loop μ-loop
+mul-output c = omega arith
+
+index-1-output : tie.Need-index-1-output Inv-loop2 μ-loop2 Inv-loop μ-loop
+index-1-output c = omega arith
+
+index-2-output : tie.Need-index-2-output Inv-loop2 μ-loop2 Inv-loop μ-loop
+index-2-output c = omega arith
+
+add-output : tie.Need-add-output Inv-loop2 μ-loop2 Inv-loop μ-loop
+add-output c = omega arith
+
+slice-write-output : tie.Need-slice-write-output Inv-loop2 μ-loop2 Inv-loop μ-loop
+slice-write-output c = omega arith
+
+add-k : tie.Need-add-k Inv-loop2 μ-loop2 Inv-loop μ-loop
+add-k c = omega arith
+
+loop2-less : tie.Need-loop2-less Inv-loop2 μ-loop2 Inv-loop μ-loop
+loop2-less c = omega arith
+
+loop2-again : tie.Need-loop2-again Inv-loop2 μ-loop2 Inv-loop μ-loop
+loop2-again c =
+    let here = c .before .before .loop2 in
+    let column = c .before .before .before .before .loop .column in
+    let done = c .before .before .before .before .before in
+    let cell = getD (done .paint-cells .last .1 .1 .1 .0) column [] in
+    let colour = getD cell (here .k) 0 in
+    let place = 6 * column + here .k in
+    let next : 6 * column + (here .k + 1) ≡ place + 1 = omega arith in
+    let inside : place < length (here .output) = omega arith in
+    let within : here .k < length cell = omega (arith, six done .1 column (omega arith)) in (
+      omega arith,
+      simp length-set (here .inv .1),
+      rw next
+          (simp (add-one, take-suc-set (here .output) place colour inside, take-suc cell (here .k) 0 within, here .inv .2, append-assoc)),
     )
 
-same-length : tie.Need-same-length
-same-length c = search needs
+add-column : tie.Need-add-column Inv-loop2 μ-loop2 Inv-loop μ-loop
+add-column c = omega arith
 
-returns : tie.Need-returns
+loop-less : tie.Need-loop-less Inv-loop2 μ-loop2 Inv-loop μ-loop
+loop-less c = omega arith
+
+loop-again : tie.Need-loop-again Inv-loop2 μ-loop2 Inv-loop μ-loop
+loop-again c =
+    let here = c .before .loop2 in
+    let column = c .before .before .before .loop .column in
+    let done = c .before .before .before .before in
+    let cells = done .paint-cells .last .1 .1 .1 .0 in
+    let cell = getD cells column [] in
+    let next : 6 * (column + 1) ≡ 6 * column + here .k = omega arith in
+    let whole : take (here .k) cell ≡ cell = take-all (here .k) cell (omega (arith, six done .1 column (omega arith))) in (
+      omega arith,
+      here .inv .1,
+      rw next (here .inv .2 ∙ ap (λ (l : List ℕ). flatten (take column cells) ++ l) whole ∙ sym (flatten-next cells column (omega (arith, six done .0)))),
+    )
+
+same-length : tie.Need-same-length Inv-loop2 μ-loop2 Inv-loop μ-loop
+same-length c = omega arith
+
+returns : tie.Need-returns Inv-loop2 μ-loop2 Inv-loop μ-loop
 unfolding pixels
 returns c =
-    let painted = c .before .before .before .before .before .paint-cells .ensures in
-    (painted .0, c .before .before .join-cells .ensures ∙ ap flatten (painted .1))
+    let here = c .before .loop in
+    let done = c .before .before in
+    let cells = done .paint-cells .last .1 .1 .1 .0 in
+    let full = take-all (6 * here .column) (here .output) (omega arith) in
+    let all = take-all (here .column) cells (omega (arith, six done .0)) in
+    (done .paint-cells .ensures .0, sym full ∙ here .inv .2 ∙ ap flatten (all ∙ done .paint-cells .ensures .1))
 
 pub fill-line-spec : {M : Type 1} → statement M
-fill-line-spec = tie.close (tie.spec paint-cells-requires join-cells-requires same-length returns)
+fill-line-spec =
+    tie.close
+    (tie.spec
+    Inv-loop2
+    μ-loop2
+    Inv-loop
+    μ-loop
+    paint-cells-requires
+    loop-holds
+    mul-from
+    loop2-holds
+    mul-output
+    index-1-output
+    index-2-output
+    add-output
+    slice-write-output
+    add-k
+    loop2-less
+    loop2-again
+    add-column
+    loop-less
+    loop-again
+    same-length
+    returns)
