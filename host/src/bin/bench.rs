@@ -42,6 +42,22 @@ fn best<const N: usize>(mut contestants: [&mut dyn FnMut(); N]) -> [Duration; N]
 fn frames(model: &Model) {
     println!();
     println!("Frames: {IMAGES} images of each kind, from every mode and counters {COUNTERS:?}.");
+    frame_heads();
+    for kind in Kind::ALL {
+        frame_row(kind, time_images(model, kind));
+    }
+    println!();
+    println!(
+        "Frames in rotation: no image is painted twice running, so that the processor's guesses"
+    );
+    println!("at branches cannot be learnt from it. The best round of the {IMAGES} images counts.");
+    frame_heads();
+    for kind in Kind::ALL {
+        frame_row(kind, time_rotation(model, kind));
+    }
+}
+
+fn frame_heads() {
     println!(
         "{:<13} {:>10} {:>10} {:>10} {:>10} {:>12} {:>15} {:>15} {:>13}",
         "kind",
@@ -54,22 +70,27 @@ fn frames(model: &Model) {
         "library/tables",
         "library/fill"
     );
-    for kind in Kind::ALL {
-        frame_row(kind, time_images(model, kind));
-    }
 }
 
-/// The time that each contestant takes for all images of a kind.
+/// An image of a kind, and the state to paint it from.
+fn subject(kind: Kind, index: usize) -> (Vec<u8>, State) {
+    let state = State {
+        mode: index as u8 % 8,
+        counter: COUNTERS[index / 8 % 4],
+    };
+    (images::image(kind, index as u64), state)
+}
+
+fn four_frames() -> [Vec<u8>; 4] {
+    std::array::from_fn(|_| vec![0; FRAME_LENGTH])
+}
+
+/// The time that each contestant takes for all images of a kind, each image at its best.
 fn time_images(model: &Model, kind: Kind) -> [Duration; 4] {
-    let mut frames = std::array::from_fn(|_| vec![0; FRAME_LENGTH]);
+    let mut frames = four_frames();
     let mut total = [Duration::ZERO; 4];
     for index in 0..IMAGES {
-        let memory = images::image(kind, index as u64);
-        let state = State {
-            mode: index as u8 % 8,
-            counter: COUNTERS[index / 8 % 4],
-        };
-        let times = time_image(model, &memory, state, &mut frames);
+        let times = time_subjects(model, &[subject(kind, index)], &mut frames);
         for (total, time) in total.iter_mut().zip(times) {
             *total += time;
         }
@@ -79,18 +100,40 @@ fn time_images(model: &Model, kind: Kind) -> [Duration; 4] {
     total
 }
 
-fn time_image(
+/// The same with all images of a kind in one round.
+fn time_rotation(model: &Model, kind: Kind) -> [Duration; 4] {
+    let subjects: Vec<_> = (0..IMAGES).map(|index| subject(kind, index)).collect();
+    time_subjects(model, &subjects, &mut four_frames())
+}
+
+/// The best time of each contestant for one round of the images.
+fn time_subjects(
     model: &Model,
-    memory: &[u8],
-    state: State,
+    subjects: &[(Vec<u8>, State)],
     frames: &mut [Vec<u8>; 4],
 ) -> [Duration; 4] {
     let [first, second, third, fourth] = frames;
     best([
-        &mut || _ = black_box(calls::paint_frame(black_box(memory), state, first)),
-        &mut || _ = black_box(planes::paint_frame(black_box(memory), state, second)),
-        &mut || _ = black_box(model.paint_frame(black_box(memory), state, third)),
-        &mut || fill(black_box(fourth), black_box(state.mode)),
+        &mut || {
+            for (memory, state) in subjects {
+                black_box(calls::paint_frame(black_box(memory), *state, first));
+            }
+        },
+        &mut || {
+            for (memory, state) in subjects {
+                black_box(planes::paint_frame(black_box(memory), *state, second));
+            }
+        },
+        &mut || {
+            for (memory, state) in subjects {
+                black_box(model.paint_frame(black_box(memory), *state, third));
+            }
+        },
+        &mut || {
+            for (_, state) in subjects {
+                fill(black_box(fourth), black_box(state.mode));
+            }
+        },
     ])
 }
 
