@@ -3,7 +3,8 @@
 use Prim.Native.Nat.{ℕ, zero, suc, _<_}
 use mathlib.Core.List.{List, [], _∷_, _++_, map, flatMap, flatten, List·Memᴰ·head, List·Memᴰ·tail, List·Memᴰ·not-nil, List·Memᴰ·cases-cons, List·Memᴰ·append-cases, Memᴰ·append-left, Memᴰ·append-right}
 use mathlib.Core.Logic.{⊎-elim}
-use mathlib.Core.Path.{refl, sym, subst}
+use mathlib.Core.Path.{_≡_, refl, sym, subst}
+use native.Mathlib.Nat.{eq-or-lt-of-le}
 use native.Mathlib.Omega.{arith}
 use lib.ListN.{replicate}
 use Rattle.machine.specs.Lists.{gather, Each}
@@ -28,6 +29,14 @@ module _ {A : Type 0} (P : A → Type 0) where
   unfolding gather
   each-gather f zero p = each-none
   each-gather f (suc n) p = each-append (gather f n) (f n) (each-gather f n (λ k h. p k (omega arith))) (p n (omega arith))
+
+  -- and back, of the k-th piece
+  pub each-piece : (f : ℕ → List A) (n : ℕ) → Each P (gather f n) → (k : ℕ) → k < n → Each P (f k)
+  unfolding gather
+  each-piece f zero p k h = absurd (omega arith)
+  each-piece f (suc n) p k h =
+      ⊎-elim (λ (e : k ≡ n). rw e (each-right (gather f n) (f n) p)) (λ less. each-piece f n (each-left (gather f n) (f n) p) k less)
+      (eq-or-lt-of-le (omega arith))
 
 module _ {A : Type 0} (P : A → Type 0) where
   pub each-replicate : (n : ℕ) {x : A} → P x → Each P (replicate n x)
@@ -57,3 +66,11 @@ module _ {A B : Type 0} (P : B → Type 0) where
   each-flatMap f [] p = each-none P
   each-flatMap f (x ∷ xs) p =
       each-append P (f x) (flatMap f xs) (p x (List·Memᴰ·head refl)) (each-flatMap f xs (λ y m. p y (List·Memᴰ·tail m)))
+
+  -- and back, of each list that was joined
+  pub each-joined : (f : A → List B) (xs : List A) → Each P (flatMap f xs) → Each (λ (x : A). Each P (f x)) xs
+  unfolding flatMap
+  each-joined f [] p = each-none (λ (x : A). Each P (f x))
+  each-joined f (x ∷ xs) p =
+      each-cons (λ (x : A). Each P (f x)) x xs (each-left P (f x) (flatMap f xs) p)
+      (each-joined f xs (each-right P (f x) (flatMap f xs) p))

@@ -1,20 +1,65 @@
 -- Laws of lists that are joined piece by piece, and of a list of which one piece is lent and comes back filled.
 -- Assumes nothing.
-use Prim.Native.Nat.{ℕ, _+_, _-_, _*_, _≤_}
+use Prim.Native.Nat.{ℕ, zero, suc, _+_, _-_, _*_, _≤_, _<_}
 use mathlib.Core.List.{List, [], _∷_, _++_, append-assoc, flatMap, flatten}
-use mathlib.Core.Path.{_≡_, refl, sym, ap, _∙_}
-use native.Mathlib.Nat.{mul-suc, add-sub-cancel-left}
+use mathlib.Core.Logic.{⊎-elim}
+use mathlib.Core.Path.{_≡_, refl, sym, ap, ap₂, _∙_}
+use native.Mathlib.Nat.{mul-suc, mul-le-mul-left, add-sub-cancel-left, eq-or-lt-of-le}
 use native.Mathlib.Numerals.{add-one}
 use native.Mathlib.Omega.{arith}
-use lib.ListN.{length, take, drop, length-append, length-drop}
-use lib.Seq.{take-at, length-take-le}
+use lib.ListN.{length, getD, take, drop, length-append, length-drop, List·getD-append}
+use lib.Seq.{take-at, length-take-le, getD-append-add}
 use borrow.Rule.Slice.PartMut.{putMid, same-len-mid}
-use Rattle.machine.specs.Lists.{gather}
+use Rattle.machine.specs.Lists.{gather, Each}
+use Rattle.machine.proofs.Each.{each-head, each-tail}
 
 -- one piece more
 pub gather-next : {A : Type 0} (f : ℕ → List A) (n : ℕ) → gather f (n + 1) ≡ gather f n ++ f n
 unfolding gather
 gather-next f n = ap (gather f) (add-one n)
+
+-- pieces that are the same give the same
+pub gather-same : {A : Type 0} (f g : ℕ → List A) (n : ℕ) → ((k : ℕ) → k < n → f k ≡ g k) → gather f n ≡ gather g n
+unfolding gather
+gather-same f g zero same = refl
+gather-same f g (suc n) same = ap₂ _++_ (gather-same f g n (λ k h. same k (omega arith))) (same n (omega arith))
+
+-- pieces of one size
+module _ {A : Type 0} (f : ℕ → List A) (size : ℕ) (sized : (k : ℕ) → length (f k) ≡ size) where
+  pub gather-length : (n : ℕ) → length (gather f n) ≡ size * n
+  unfolding gather
+  gather-length zero = omega arith
+  gather-length (suc n) = length-append (gather f n) (f n) ∙ omega (arith, gather-length n, sized n, mul-suc size n)
+
+  -- element j of piece i
+  pub gather-at : (n i j : ℕ) (d : A) → i < n → j < size → getD (gather f n) (size * i + j) d ≡ getD (f i) j d
+  unfolding gather
+  gather-at zero i j d hi hj = absurd (omega arith)
+  gather-at (suc n) i j d hi hj =
+      ⊎-elim
+      (λ (e : i ≡ n).
+      rw e (rw (← gather-length n) (getD-append-add (gather f n) (f n) j d)))
+      (λ (less : i < n).
+      let before : size * suc i ≤ size * n = mul-le-mul-left size (omega arith) in
+      List·getD-append (gather f n) (f n) d (size * i + j) (omega (arith, gather-length n, mul-suc size i))
+      ∙ gather-at n i j d less hj)
+      (eq-or-lt-of-le (omega arith))
+
+-- element j of list i, of joined lists of one size
+pub flatten-at : {A : Type 0} (size : ℕ) (xs : List (List A)) → Each (λ (x : List A). length x ≡ size) xs → (i j : ℕ) (d : A)
+    → i < length xs → j < size → getD (flatten xs) (size * i + j) d ≡ getD (getD xs i []) j d
+unfolding flatten
+flatten-at size [] sized i j d hi hj = absurd (omega arith)
+flatten-at size (x ∷ xs) sized zero j d hi hj =
+    let here = each-head (λ (y : List _). length y ≡ size) x xs sized in
+    let place : size * 0 + j ≡ j = omega arith in
+    rw place (List·getD-append x (flatten xs) d j (omega arith))
+flatten-at size (x ∷ xs) sized (suc i) j d hi hj =
+    let here = each-head (λ (y : List _). length y ≡ size) x xs sized in
+    let place : size * suc i + j ≡ length x + (size * i + j) = omega (arith, mul-suc size i) in
+    rw place
+    (getD-append-add x (flatten xs) (size * i + j) d
+    ∙ flatten-at size xs (each-tail (λ (y : List _). length y ≡ size) x xs sized) i j d (omega arith) hj)
 
 pub flatMap-append : {A B : Type 0} (f : A → List B) (xs ys : List A) → flatMap f (xs ++ ys) ≡ flatMap f xs ++ flatMap f ys
 unfolding flatMap

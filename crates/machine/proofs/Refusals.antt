@@ -1,13 +1,14 @@
--- What a status tells: which of two things is given, the refusal of a longer list, and that nothing applies where it is 0.
+-- What a status tells: which of two things is given, and where it is 0 that each test of the nest was passed.
 -- Assumes nothing.
-use Prim.Native.Nat.{ℕ, zero, suc}
+use Prim.Native.Nat.{ℕ, zero, suc, _≤_, _<_}
 use mathlib.Core.Bool.{Bool, true, false, not, cond}
-use mathlib.Core.List.{List, [], _∷_, _++_}
-use mathlib.Core.Path.{_≡_, refl, sym, subst}
+use mathlib.Core.Path.{_≡_, refl, subst}
 use native.Mathlib.Omega.{arith}
-use lib.Dec.{T, eqb}
-use borrow.Author.Tests.{eq-eqb}
-use Rattle.machine.specs.Refusal.{Check, refusal, ifDone, firstOf, Numbered, Passed}
+use lib.Dec.{T, eqb, leb, ltb}
+use borrow.Author.Tests.{eq-eqb, eqb-true, leb-false, ltb-false, not-false}
+use Rattle.machine.specs.Image.{imageLength}
+use Rattle.machine.specs.Refusal.{Check, given, ifDone, memoryCheck, outputCheck, modeCheck, counterCheck, lineCheck, columnCheck, kindCheck}
+use Rattle.machine.specs.Sizes.{columns, lines, lastMode, lastCount, lastKind}
 
 pub done : {A : Type 0} (n : ℕ) (a b : A) → n ≡ 0 → ifDone n a b ≡ a
 done zero a b e = refl
@@ -17,28 +18,52 @@ pub refused : {A : Type 0} (n : ℕ) (a b : A) → (n ≡ 0 → ⊥) → ifDone 
 refused zero a b e = absurd (e refl)
 refused (suc n) a b e = refl
 
-not-zero : (n : ℕ) → T (not (eqb n 0)) → n ≡ 0 → ⊥
-not-zero n t e = subst (λ (b : Bool). T (not b)) (eq-eqb n 0 e) t
+-- a test was passed: what it asks holds, and so the status is that of the tests after it
+pub record Passed (Fact : Type 0) (later : ℕ) : Type 0 where
+  pub holds : Fact
+  pub rest : later ≡ 0
 
-one-more : (number : ℕ) (later all : ℕ) (rest : ℕ) (b : Bool) → T (not (eqb number 0)) → all ≡ firstOf rest later
-    → cond b number all ≡ firstOf (cond b number rest) later
-one-more number later all rest true t e = sym (refused number later number (not-zero number t))
-one-more number later all rest false t e = e
+-- a check that is in a nest whose status is 0 does not apply
+unapplied : (applies : Bool) (number later : ℕ) → T (not (eqb number 0)) → cond applies number later ≡ 0 → Passed (applies ≡ false) later
+unapplied true number later t e = absurd (subst (λ (b : Bool). T (not b)) (eq-eqb number 0 e) t)
+unapplied false number later t e = record { holds = refl; rest = e }
 
--- the refusal of a list that is followed by another
-pub refusal-append : (xs ys : List Check) → Numbered xs → refusal (xs ++ ys) ≡ firstOf (refusal xs) (refusal ys)
-refusal-append [] ys t = refl
-refusal-append (x ∷ xs) ys t =
-    one-more (x .number) (refusal ys) (refusal (xs ++ ys)) (refusal xs) (x .applies) (t .0)
-    (refusal-append xs ys (t .1))
+-- the three forms of a test: a length that is wanted, a largest number, a first number that is too large
+module _ (number later : ℕ) (numbered : T (not (eqb number 0))) where
+  equal : (wanted size : ℕ) → cond (not (eqb size wanted)) number later ≡ 0 → Passed (size ≡ wanted) later
+  equal wanted size e =
+      let p = unapplied (not (eqb size wanted)) number later numbered e in
+      record { holds = eqb-true size wanted (not-false _ (p .holds)); rest = p .rest }
 
-none-applies : (number rest : ℕ) (b : Bool) → T (not (eqb number 0)) → cond b number rest ≡ 0 → (b ≡ false) × (rest ≡ 0)
-none-applies number rest true t e = absurd (not-zero number t e)
-none-applies number rest false t e = (refl, e)
+  at-most : (last n : ℕ) → cond (ltb last n) number later ≡ 0 → Passed (n ≤ last) later
+  at-most last n e =
+      let p = unapplied (ltb last n) number later numbered e in
+      record { holds = ltb-false last n (p .holds); rest = p .rest }
 
--- where the status is 0, no check applies
-pub passed : (xs : List Check) → Numbered xs → refusal xs ≡ 0 → Passed xs
-passed [] t e = tt
-passed (x ∷ xs) t e =
-    let here = none-applies (x .number) (refusal xs) (x .applies) (t .0) e in
-    (here .0, passed xs (t .1) (here .1))
+  below : (limit n : ℕ) → cond (leb limit n) number later ≡ 0 → Passed (n < limit) later
+  below limit n e =
+      let p = unapplied (leb limit n) number later numbered e in
+      record { holds = leb-false limit n (p .holds); rest = p .rest }
+
+-- what each test has shown where it was passed
+module _ (later : ℕ) where
+  pub memory-passed : (size : ℕ) → given (memoryCheck size) later ≡ 0 → Passed (size ≡ imageLength) later
+  memory-passed size = equal 1 later tt imageLength size
+
+  pub output-passed : (wanted size : ℕ) → given (outputCheck wanted size) later ≡ 0 → Passed (size ≡ wanted) later
+  output-passed wanted size = equal 2 later tt wanted size
+
+  pub mode-passed : (mode : ℕ) → given (modeCheck mode) later ≡ 0 → Passed (mode ≤ lastMode) later
+  mode-passed mode = at-most 3 later tt lastMode mode
+
+  pub counter-passed : (counter : ℕ) → given (counterCheck counter) later ≡ 0 → Passed (counter ≤ lastCount) later
+  counter-passed counter = at-most 4 later tt lastCount counter
+
+  pub line-passed : (line : ℕ) → given (lineCheck line) later ≡ 0 → Passed (line < lines) later
+  line-passed line = below 5 later tt lines line
+
+  pub column-passed : (column : ℕ) → given (columnCheck column) later ≡ 0 → Passed (column < columns) later
+  column-passed column = below 6 later tt columns column
+
+  pub kind-passed : (kind : ℕ) → given (kindCheck kind) later ≡ 0 → Passed (kind ≤ lastKind) later
+  kind-passed kind = at-most 7 later tt lastKind kind

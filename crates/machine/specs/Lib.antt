@@ -1,3 +1,5 @@
 pub mod Bits
+pub mod Image
+pub mod Sizes
 pub mod Refusal
 pub mod Lists

@@ -1,9 +1,8 @@
-// What both halves of the reference share: the length of the memory image, the refusals' numbers, limits and order.
+// What every crate shares: the length of the memory image, the sizes of a frame, the refusals' numbers and limits.
 mod refusal;
 
 pub use refusal::column_refusal;
 pub use refusal::counter_refusal;
-pub use refusal::first_refusal;
 pub use refusal::kind_refusal;
 pub use refusal::line_refusal;
 pub use refusal::memory_refusal;
@@ -13,10 +12,23 @@ pub use refusal::output_refusal;
 // The memory image is the RAM alone (document 01: memory image).
 pub const IMAGE_LENGTH: usize = 65_536;
 
-// A picture is 224 lines of 40 cells.
-pub const LINES: usize = 224;
+// A cell is six pixels, a line forty cells, a frame 224 lines; a pixel is a byte.
+pub const CELL_LENGTH: usize = 6;
 
 pub const COLUMNS: usize = 40;
+
+pub const LINES: usize = 224;
+
+pub const LINE_LENGTH: usize = CELL_LENGTH * COLUMNS;
+
+pub const FRAME_LENGTH: usize = LINE_LENGTH * LINES;
+
+// The largest mode, flash count and controller kind.
+pub const LAST_MODE: u8 = 7;
+
+pub const LAST_COUNT: u8 = 31;
+
+pub const LAST_KIND: u8 = 2;
 
 // The status of an answer: 0 is done, any other number is the first refusal that applies.
 pub const DONE: u8 = 0;

@@ -1,11 +1,13 @@
-// The refusals one by one, and which of two is given. An entry point joins those that concern its inputs, in the order of their numbers.
+// The refusals one by one. Each takes the status of the tests that come after it, so an entry point nests those that concern its
+// inputs in its own order.
 ghost use mathlib.Core.Path.{_≡_};
 ghost use mathlib.Core.Bool.{cond};
-ghost use mathlib.Core.List.{[], _∷_};
-ghost use Rattle.machine.specs.Refusal.{refusal, firstOf, memoryCheck, outputCheck, modeCheck, counterCheck, lineCheck, columnCheck, kindCheck};
+ghost use Rattle.machine.specs.Refusal.{given, memoryCheck, outputCheck, modeCheck, counterCheck, lineCheck, columnCheck, kindCheck};
 use crate::COLUMNS;
-use crate::DONE;
 use crate::IMAGE_LENGTH;
+use crate::LAST_COUNT;
+use crate::LAST_KIND;
+use crate::LAST_MODE;
 use crate::LINES;
 use crate::WRONG_COLUMN;
 use crate::WRONG_COUNTER;
@@ -15,63 +17,50 @@ use crate::WRONG_MEMORY;
 use crate::WRONG_MODE;
 use crate::WRONG_OUTPUT;
 
-const LAST_MODE: u8 = 7;
-
-const LAST_COUNT: u8 = 31;
-
-const LAST_KIND: u8 = 2;
-
-// The earlier of two statuses, unless that is done.
-pub fn first_refusal(earlier: u8, later: u8) -> u8
-    ensures { λ r. ⌜ r ≡ firstOf earlier later ⌝ }
+fn refuse_if(applies: bool, number: u8, later: u8) -> u8
+    ensures { λ r. ⌜ r ≡ cond applies number later ⌝ }
 {
-    if earlier == DONE { later } else { earlier }
+    if applies { number } else { later }
 }
 
-fn refuse_if(applies: bool, number: u8) -> u8
-    ensures { λ r. ⌜ r ≡ cond applies number 0 ⌝ }
+pub fn memory_refusal(size: usize, later: u8) -> u8
+    ensures { λ r. ⌜ r ≡ given (memoryCheck size) later ⌝ }
 {
-    if applies { number } else { DONE }
+    refuse_if(size != IMAGE_LENGTH, WRONG_MEMORY, later)
 }
 
-pub fn memory_refusal(size: usize) -> u8
-    ensures { λ r. ⌜ r ≡ refusal (memoryCheck size ∷ []) ⌝ }
+pub fn output_refusal(wanted: usize, size: usize, later: u8) -> u8
+    ensures { λ r. ⌜ r ≡ given (outputCheck wanted size) later ⌝ }
 {
-    refuse_if(size != IMAGE_LENGTH, WRONG_MEMORY)
+    refuse_if(size != wanted, WRONG_OUTPUT, later)
 }
 
-pub fn output_refusal(wanted: usize, size: usize) -> u8
-    ensures { λ r. ⌜ r ≡ refusal (outputCheck wanted size ∷ []) ⌝ }
+pub fn mode_refusal(mode: u8, later: u8) -> u8
+    ensures { λ r. ⌜ r ≡ given (modeCheck mode) later ⌝ }
 {
-    refuse_if(size != wanted, WRONG_OUTPUT)
+    refuse_if(mode > LAST_MODE, WRONG_MODE, later)
 }
 
-pub fn mode_refusal(mode: u8) -> u8
-    ensures { λ r. ⌜ r ≡ refusal (modeCheck mode ∷ []) ⌝ }
+pub fn counter_refusal(counter: u8, later: u8) -> u8
+    ensures { λ r. ⌜ r ≡ given (counterCheck counter) later ⌝ }
 {
-    refuse_if(mode > LAST_MODE, WRONG_MODE)
+    refuse_if(counter > LAST_COUNT, WRONG_COUNTER, later)
 }
 
-pub fn counter_refusal(counter: u8) -> u8
-    ensures { λ r. ⌜ r ≡ refusal (counterCheck counter ∷ []) ⌝ }
+pub fn line_refusal(line: usize, later: u8) -> u8
+    ensures { λ r. ⌜ r ≡ given (lineCheck line) later ⌝ }
 {
-    refuse_if(counter > LAST_COUNT, WRONG_COUNTER)
+    refuse_if(line >= LINES, WRONG_LINE, later)
 }
 
-pub fn line_refusal(line: usize) -> u8
-    ensures { λ r. ⌜ r ≡ refusal (lineCheck line ∷ []) ⌝ }
+pub fn column_refusal(column: usize, later: u8) -> u8
+    ensures { λ r. ⌜ r ≡ given (columnCheck column) later ⌝ }
 {
-    refuse_if(line >= LINES, WRONG_LINE)
+    refuse_if(column >= COLUMNS, WRONG_COLUMN, later)
 }
 
-pub fn column_refusal(column: usize) -> u8
-    ensures { λ r. ⌜ r ≡ refusal (columnCheck column ∷ []) ⌝ }
+pub fn kind_refusal(kind: u8, later: u8) -> u8
+    ensures { λ r. ⌜ r ≡ given (kindCheck kind) later ⌝ }
 {
-    refuse_if(column >= COLUMNS, WRONG_COLUMN)
-}
-
-pub fn kind_refusal(kind: u8) -> u8
-    ensures { λ r. ⌜ r ≡ refusal (kindCheck kind ∷ []) ⌝ }
-{
-    refuse_if(kind > LAST_KIND, WRONG_KIND)
+    refuse_if(kind > LAST_KIND, WRONG_KIND, later)
 }
