@@ -1,12 +1,12 @@
 -- What holds of each element of a list holds of each of its parts, and the other way round.
 -- Assumes nothing.
 use Prim.Native.Nat.{ℕ, zero, suc, _<_}
-use mathlib.Core.List.{List, [], _∷_, _++_, map, flatMap, flatten, List·Memᴰ·head, List·Memᴰ·tail, List·Memᴰ·not-nil, List·Memᴰ·cases-cons, List·Memᴰ·append-cases, Memᴰ·append-left, Memᴰ·append-right}
+use mathlib.Core.List.{List, [], _∷_, _++_, map, flatMap, flatten, List·Memᴰ·head, List·Memᴰ·tail, List·Memᴰ·not-nil, List·Memᴰ·cases-cons, List·Memᴰ·append-cases, Memᴰ·append-left, Memᴰ·append-right, Memᴰ·map}
 use mathlib.Core.Logic.{⊎-elim}
 use mathlib.Core.Path.{_≡_, refl, sym, subst}
 use native.Mathlib.Nat.{eq-or-lt-of-le}
 use native.Mathlib.Omega.{arith}
-use lib.ListN.{replicate}
+use lib.ListN.{getD, length, replicate}
 use Rattle.machine.specs.Lists.{gather, Each}
 
 module _ {A : Type 0} (P : A → Type 0) where
@@ -49,6 +49,12 @@ module _ {A : Type 0} (P : A → Type 0) where
   pub each-tail : (x : A) (xs : List A) → Each P (x ∷ xs) → Each P xs
   each-tail x xs p y m = p y (List·Memᴰ·tail m)
 
+  -- the element at an index
+  pub each-at : (xs : List A) → Each P xs → (i : ℕ) (d : A) → i < length xs → P (getD xs i d)
+  each-at [] p i d h = absurd (omega arith)
+  each-at (x ∷ xs) p zero d h = each-head x xs p
+  each-at (x ∷ xs) p (suc i) d h = each-at xs (each-tail x xs p) i d (omega arith)
+
   pub each-flatten : (xs : List (List A)) → Each (Each P) xs → Each P (flatten xs)
   unfolding flatten
   each-flatten [] p = each-none P
@@ -60,6 +66,10 @@ module _ {A B : Type 0} (P : B → Type 0) where
   each-map f [] p = each-none P
   each-map f (x ∷ xs) p =
       each-cons P (f x) (map f xs) (p x (List·Memᴰ·head refl)) (each-map f xs (λ y m. p y (List·Memᴰ·tail m)))
+
+  -- and back
+  pub each-mapped : (f : A → B) (xs : List A) → Each P (map f xs) → Each (λ (x : A). P (f x)) xs
+  each-mapped f xs p x m = p (f x) (Memᴰ·map f m)
 
   pub each-flatMap : (f : A → List B) (xs : List A) → Each (λ (x : A). Each P (f x)) xs → Each P (flatMap f xs)
   unfolding flatMap

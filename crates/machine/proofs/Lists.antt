@@ -1,7 +1,7 @@
 -- Laws of lists that are joined piece by piece, and of a list of which one piece is lent and comes back filled.
 -- Assumes nothing.
 use Prim.Native.Nat.{ℕ, zero, suc, _+_, _-_, _*_, _≤_, _<_}
-use mathlib.Core.List.{List, [], _∷_, _++_, append-assoc, flatMap, flatten}
+use mathlib.Core.List.{List, [], _∷_, _++_, append-assoc, map, flatMap, flatten}
 use mathlib.Core.Logic.{⊎-elim}
 use mathlib.Core.Path.{_≡_, refl, sym, ap, ap₂, _∙_}
 use native.Mathlib.Nat.{mul-suc, mul-le-mul-left, add-sub-cancel-left, eq-or-lt-of-le}
@@ -45,7 +45,17 @@ module _ {A : Type 0} (f : ℕ → List A) (size : ℕ) (sized : (k : ℕ) → l
       ∙ gather-at n i j d less hj)
       (eq-or-lt-of-le (omega arith))
 
--- element j of list i, of joined lists of one size
+-- joined lists of one size
+pub flatten-length : {A : Type 0} (size : ℕ) (xs : List (List A)) → Each (λ (x : List A). length x ≡ size) xs
+    → length (flatten xs) ≡ size * length xs
+unfolding flatten
+flatten-length size [] sized = omega arith
+flatten-length size (x ∷ xs) sized =
+    let rest = flatten-length size xs (each-tail (λ (y : List _). length y ≡ size) x xs sized) in
+    length-append x (flatten xs)
+    ∙ omega (arith, each-head (λ (y : List _). length y ≡ size) x xs sized, rest, mul-suc size (length xs))
+
+-- element j of list i
 pub flatten-at : {A : Type 0} (size : ℕ) (xs : List (List A)) → Each (λ (x : List A). length x ≡ size) xs → (i j : ℕ) (d : A)
     → i < length xs → j < size → getD (flatten xs) (size * i + j) d ≡ getD (getD xs i []) j d
 unfolding flatten
@@ -60,6 +70,12 @@ flatten-at size (x ∷ xs) sized (suc i) j d hi hj =
     rw place
     (getD-append-add x (flatten xs) (size * i + j) d
     ∙ flatten-at size xs (each-tail (λ (y : List _). length y ≡ size) x xs sized) i j d (omega arith) hj)
+
+-- the element at an index, whatever stands for one that is not there
+pub map-at : {A B : Type 0} (f : A → B) (xs : List A) (i : ℕ) (a : A) (b : B) → i < length xs → getD (map f xs) i b ≡ f (getD xs i a)
+map-at f [] i a b h = absurd (omega arith)
+map-at f (x ∷ xs) zero a b h = refl
+map-at f (x ∷ xs) (suc i) a b h = map-at f xs i a b (omega arith)
 
 pub flatMap-append : {A B : Type 0} (f : A → List B) (xs ys : List A) → flatMap f (xs ++ ys) ≡ flatMap f xs ++ flatMap f ys
 unfolding flatMap

@@ -1,50 +1,52 @@
--- What holds of the inputs where no refusal applies.
+-- What holds of the inputs where no refusal applies, and that none applies where it holds.
 -- Assumes nothing.
-use Prim.Native.Nat.{ℕ, _<_, _≤_}
-use mathlib.Core.Bool.{false, not}
-use mathlib.Core.List.{List, [], _∷_, _++_}
+use Prim.Native.Nat.{ℕ, _<_}
+use mathlib.Core.List.{List}
 use mathlib.Core.Path.{_≡_}
-use native.Mathlib.Omega.{arith}
-use lib.Dec.{eqb, ltb}
 use lib.ListN.{length}
-use borrow.Author.Tests.{eqb-true, ltb-false, not-false}
-use Rattle.machine.specs.Refusal.{refusal, modeCheck, lineCheck, columnCheck}
-use Rattle.machine.proofs.Refusals.{passed}
-use Rattle.video.specs.Answer.{paintingChecks, addressRefusal, lineRefusal}
+use borrow.Author.Tests.{eq-eqb, le-ltb}
+use Rattle.machine.specs.Image.{Image, IsImage, imageLength}
+use Rattle.machine.specs.Refusal.{Check, refusal}
+use Rattle.machine.specs.Sizes.{columns, lines, frameLength, lastMode, lastCount}
+use Rattle.machine.proofs.Refusals.{memory-passed, output-passed, mode-passed, counter-passed, line-passed, column-passed}
+use Rattle.video.specs.Answer.{paintingChecks, addressRefusal, frameRefusal}
+use Rattle.video.specs.State.{Within}
 use Rattle.video.specs.declared.state.State.{State}
 
-pub accepted-address : (line column mode : ℕ) → addressRefusal line column mode ≡ 0 → (line < 224) × (column < 40)
+pub accepted-address : (line column mode : ℕ) → addressRefusal line column mode ≡ 0 → (line < lines) × (column < columns)
 accepted-address line column mode done =
-    let p = passed (modeCheck mode ∷ lineCheck line ∷ columnCheck column ∷ []) (tt, (tt, (tt, tt))) done in
-    omega (arith, ltb-false 223 line (p .1 .0), ltb-false 39 column (p .1 .1 .0))
+    let past-mode = mode-passed _ mode done in
+    let past-line = line-passed _ line (past-mode .rest) in
+    (past-line .holds, column-passed _ column (past-line .rest) .holds)
 
--- an accepted painting: both lengths are right and the state is within its limits
-pub record Paintable (memory wanted output : ℕ) (state : State) : Type 0 where
-  pub image : memory ≡ 65536
+-- an accepted painting: both lengths are right, the state is within its limits, and no later check applies
+pub record Paintable (memory wanted output : ℕ) (state : State) (later : List Check) : Type 0 where
+  pub image : memory ≡ imageLength
   pub lent : output ≡ wanted
-  pub mode : state .mode ≤ 7
-  pub counter : state .counter ≤ 31
+  pub within : Within state
+  pub rest : refusal later ≡ 0
 
-within : (memory wanted output : ℕ) (state : State) → not (eqb memory 65536) ≡ false → not (eqb output wanted) ≡ false
-    → ltb 7 (state .mode) ≡ false → ltb 31 (state .counter) ≡ false → Paintable memory wanted output state
-within memory wanted output state image lent mode counter =
+pub accepted-painting : (memory wanted output : ℕ) (state : State) (later : List Check)
+    → refusal (paintingChecks memory wanted output state later) ≡ 0 → Paintable memory wanted output state later
+accepted-painting memory wanted output state later done =
+    let image = memory-passed _ memory done in
+    let lent = output-passed _ wanted output (image .rest) in
+    let mode = mode-passed _ (state .mode) (lent .rest) in
+    let counter = counter-passed _ (state .counter) (mode .rest) in
     record {
-      image = eqb-true memory 65536 (not-false _ image);
-      lent = eqb-true output wanted (not-false _ lent);
-      mode = ltb-false 7 (state .mode) mode;
-      counter = ltb-false 31 (state .counter) counter;
+      image = image .holds;
+      lent = lent .holds;
+      within = record { mode = mode .holds; counter = counter .holds };
+      rest = counter .rest;
     }
 
-pub accepted-painting : (memory wanted output : ℕ) (state : State) → refusal (paintingChecks memory wanted output state) ≡ 0
-    → Paintable memory wanted output state
-accepted-painting memory wanted output state done =
-    let p = passed (paintingChecks memory wanted output state) (tt, (tt, (tt, (tt, tt)))) done in
-    within memory wanted output state (p .0) (p .1 .0) (p .1 .1 .0) (p .1 .1 .1 .0)
-
-pub accepted-line : (memory : List ℕ) (state : State) (line : ℕ) (output : List ℕ) → lineRefusal memory state line output ≡ 0
-    → Paintable (length memory) 240 (length output) state × (line < 224)
-accepted-line memory state line output done =
-    let p = passed (paintingChecks (length memory) 240 (length output) state ++ (lineCheck line ∷ [])) (tt, (tt, (tt, (tt, (tt, tt))))) done in (
-      within (length memory) 240 (length output) state (p .0) (p .1 .0) (p .1 .1 .0) (p .1 .1 .1 .0),
-      omega (arith, ltb-false 223 line (p .1 .1 .1 .1 .0)),
+-- a frame of its length, of an image, from a state within its limits, is not refused
+pub frame-accepted : (image : Image) (state : State) (frame : List ℕ) → IsImage image → Within state → length frame ≡ frameLength
+    → frameRefusal image state frame ≡ 0
+frame-accepted image state frame sized within lent =
+    simp (
+      eq-eqb (length image) imageLength sized,
+      eq-eqb (length frame) frameLength lent,
+      le-ltb lastMode (state .mode) (within .mode),
+      le-ltb lastCount (state .counter) (within .counter),
     )

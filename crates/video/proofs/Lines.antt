@@ -1,87 +1,87 @@
--- The registers' path along a line, and the counts of its first n cells, by induction on n.
+-- The registers' path along a line, and the sizes of its first n cells.
 -- Assumes nothing.
-use Prim.Native.Nat.{ℕ, zero, suc, _+_, _*_, _≤_, _<_}
-use mathlib.Core.List.{List, [], _∷_, _++_, map, map-append, flatMap, flatten}
+use Prim.Native.Nat.{ℕ, zero, suc, _+_, _<_, _≤_}
+use mathlib.Core.List.{List, [], _∷_, _++_, map}
 use mathlib.Core.Path.{_≡_, refl, ap, _∙_}
 use native.Mathlib.Numerals.{add-one}
 use native.Mathlib.Omega.{arith}
-use lib.ListN.{length, getD, length-append, List·getD-append}
-use lib.Seq.{getD-at}
-use borrow.Author.Count.{below-more}
-use Rattle.machine.specs.Lists.{gather}
-use Rattle.machine.proofs.Lists.{gather-next}
-use Rattle.video.specs.Cell.{Cell, cell, screenByte, pixels, screenAddresses, characterAddresses, modeLeft}
-use Rattle.video.specs.Line.{registersBefore, cellAt, firstCells}
-use Rattle.video.proofs.Cells.{Coloured, after-coloured, after-fits, cell-six}
-use Rattle.video.proofs.Readings.{modeLeft-append, screens-one, characters-one, pixels-one, one-at-most}
+use lib.ListN.{length, length-map}
+use Rattle.machine.specs.Image.{Image}
+use Rattle.machine.specs.Lists.{gather, Each}
+use Rattle.machine.specs.Sizes.{cellLength, columns, lineLength, lastMode}
+use Rattle.machine.proofs.Each.{each-none, each-cons, each-gather, each-map}
+use Rattle.machine.proofs.Lists.{gather-next, gather-length, flatten-length}
+use Rattle.video.specs.Cell.{Cell, cell, screenByte, pixels, modeLeft}
+use Rattle.video.specs.Laws.{LineUsesScreenBytes}
+use Rattle.video.specs.Line.{registersBefore, cellAt, firstCells, lineCells}
+use Rattle.video.proofs.Cells.{Coloured, after-coloured, after-mode, cell-six}
+use Rattle.video.proofs.Readings.{modeLeft-append, screens-length}
+use Rattle.video.specs.declared.registers.Registers.{Registers}
 
--- n cells of six colours
-abbrev pub Sixes : List (List ℕ) → ℕ → Type 0
-Sixes cells n = (length cells ≡ n) × ((column : ℕ) → column < n → length (getD cells column []) ≡ 6)
+-- a list of six colours
+abbrev pub Six : List ℕ → Type 0
+Six colours = length colours ≡ cellLength
 
-module _ (memory : List ℕ) (counter line mode : ℕ) where
-  pub cells-next : (n : ℕ) → firstCells memory counter line mode (n + 1) ≡ firstCells memory counter line mode n ++ (cellAt memory counter line mode n ∷ [])
+module _ (image : Image) (counter line mode : ℕ) where
+  abbrev cellsAt : ℕ → List Cell
+  cellsAt column = cellAt image counter line mode column ∷ []
+
+  pub cells-next : (n : ℕ) → firstCells image counter line mode (n + 1) ≡ firstCells image counter line mode n ++ (cellAt image counter line mode n ∷ [])
   unfolding firstCells
-  cells-next n = gather-next (λ (column : ℕ). cellAt memory counter line mode column ∷ []) n
+  cells-next n = gather-next cellsAt n
+
+  pub cells-length : (n : ℕ) → length (firstCells image counter line mode n) ≡ n
+  unfolding firstCells
+  cells-length n = gather-length cellsAt 1 (λ k. refl) n ∙ omega arith
 
   -- a cell leaves the registers before the next
-  pub registers-next : (n : ℕ) → registersBefore memory line mode (n + 1) ≡ cellAt memory counter line mode n .registers
+  pub registers-next : (n : ℕ) → registersBefore image line mode (n + 1) ≡ cellAt image counter line mode n .registers
   unfolding registersBefore cellAt cell
-  registers-next n = ap (registersBefore memory line mode) (add-one n)
+  registers-next n = ap (registersBefore image line mode) (add-one n)
 
-  pub registers-coloured : (n : ℕ) → Coloured (registersBefore memory line mode n)
+  pub mode-after : (n : ℕ) → modeLeft mode (firstCells image counter line mode n) ≡ registersBefore image line mode n .mode
+  unfolding firstCells gather modeLeft registersBefore cellAt cell
+  mode-after zero = refl
+  mode-after (suc n) = modeLeft-append mode (firstCells image counter line mode n) (cellsAt n)
+
+module _ (image : Image) (line mode : ℕ) where
+  pub registers-coloured : (n : ℕ) → Coloured (registersBefore image line mode n)
   unfolding registersBefore
   registers-coloured zero = record { ink = omega arith; paper = omega arith }
   registers-coloured (suc n) =
-      let before = registersBefore memory line mode n in
-      after-coloured before (screenByte memory line n (before .mode)) (registers-coloured n)
+      let before = registersBefore image line mode n in
+      after-coloured before (screenByte image line n (before .mode)) (registers-coloured n)
 
-  -- the mode is a byte where it was one before the line
-  pub mode-fits : mode < 256 → (n : ℕ) → registersBefore memory line mode n .mode < 256
+  -- the mode is 0 to 7 where it was before the line
+  pub mode-small : mode ≤ lastMode → (n : ℕ) → registersBefore image line mode n .mode ≤ lastMode
   unfolding registersBefore
-  mode-fits h zero = h
-  mode-fits h (suc n) =
-      let before = registersBefore memory line mode n in
-      after-fits before (screenByte memory line n (before .mode)) (mode-fits h n)
+  mode-small h zero = h
+  mode-small h (suc n) =
+      let before = registersBefore image line mode n in
+      after-mode before (screenByte image line n (before .mode)) (mode-small h n)
 
-  pub mode-after : (n : ℕ) → modeLeft mode (firstCells memory counter line mode n) ≡ registersBefore memory line mode n .mode
-  unfolding firstCells gather modeLeft registersBefore cellAt cell
-  mode-after zero = refl
-  mode-after (suc n) = modeLeft-append mode (firstCells memory counter line mode n) (cellAt memory counter line mode n ∷ [])
+-- what holds of the cell at each column holds of each cell of the line
+pub each-of-line : (P : Cell → Type 0) (image : Image) (counter line mode : ℕ)
+    → ((column : ℕ) → column < columns → (before : Registers) → Coloured before → P (cell image counter line column before))
+    → Each P (lineCells image counter line mode)
+unfolding firstCells cellAt
+each-of-line P image counter line mode p =
+    each-gather P _ columns (λ column h. each-cons P _ []
+    (p column h (registersBefore image line mode column) (registers-coloured image line mode column)) (each-none P))
 
-  pub screens-of : (n : ℕ) → length (screenAddresses (firstCells memory counter line mode n)) ≡ n
-  unfolding firstCells gather screenAddresses
-  screens-of zero = refl
-  screens-of (suc n) = screens-one (firstCells memory counter line mode n) (cellAt memory counter line mode n) ∙ omega (arith, screens-of n)
+-- a line is forty times six colours
+pub line-sixes : (image : Image) (counter line mode : ℕ) → Each Six (map (λ (c : Cell). c .colours) (lineCells image counter line mode))
+line-sixes image counter line mode =
+    each-map Six (λ (c : Cell). c .colours) _
+    (each-of-line (λ (c : Cell). Six (c .colours)) image counter line mode (λ column h before coloured.
+    cell-six image counter line column before))
 
-  pub characters-of : (n : ℕ) → length (characterAddresses (firstCells memory counter line mode n)) ≤ n
-  unfolding firstCells gather characterAddresses flatMap
-  characters-of zero = omega arith
-  characters-of (suc n) =
-      rw (characters-one (firstCells memory counter line mode n) (cellAt memory counter line mode n))
-      (omega (arith, characters-of n, one-at-most (cellAt memory counter line mode n .character)))
+pub line-pixels : (image : Image) (counter line mode : ℕ) → length (pixels (lineCells image counter line mode)) ≡ lineLength
+unfolding pixels
+line-pixels image counter line mode =
+    flatten-length cellLength _ (line-sixes image counter line mode)
+    ∙ omega (arith, length-map (lineCells image counter line mode) (λ (c : Cell). c .colours), cells-length image counter line mode columns)
 
-  -- the first n cells are n times six colours
-  pub sixes : (n : ℕ) → Sixes (map (λ (c : Cell). c .colours) (firstCells memory counter line mode n)) n
-  unfolding firstCells gather cellAt
-  sixes zero = (refl, λ k h. absurd (omega arith))
-  sixes (suc n) =
-      let before = map (λ (c : Cell). c .colours) (firstCells memory counter line mode n) in
-      let x = cellAt memory counter line mode n in
-      let joined = map-append (λ (c : Cell). c .colours) (firstCells memory counter line mode n) (x ∷ []) in
-      let six = cell-six memory counter line n (registersBefore memory line mode n) in (
-        ap length joined ∙ length-append before (x .colours ∷ []) ∙ omega (arith, sixes n .0),
-        λ k h. rw joined (below-more (λ (k : ℕ). length (getD (before ++ (x .colours ∷ [])) k []) ≡ 6) n
-            (λ k h. ap length (List·getD-append before (x .colours ∷ []) [] k (omega (arith, sixes n .0))) ∙ sixes n .1 k h)
-            (ap length (getD-at before (x .colours) [] [] n (sixes n .0)) ∙ six) k (omega arith)),
-      )
-
-  pub pixels-of : (n : ℕ) → length (pixels (firstCells memory counter line mode n)) ≡ 6 * n
-  unfolding firstCells gather cellAt pixels flatten
-  pixels-of zero = refl
-  pixels-of (suc n) =
-      let before = firstCells memory counter line mode n in
-      let x = cellAt memory counter line mode n in
-      ap length (pixels-one before x)
-      ∙ length-append (pixels before) (x .colours)
-      ∙ omega (arith, pixels-of n, cell-six memory counter line n (registersBefore memory line mode n))
+pub line-uses-screen-bytes : LineUsesScreenBytes
+line-uses-screen-bytes image counter line mode =
+    screens-length (lineCells image counter line mode) ∙ cells-length image counter line mode columns

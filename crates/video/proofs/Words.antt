@@ -1,6 +1,6 @@
 -- A word of six pixels about a gap: ink where a bit is set and paper elsewhere, as one sum of two products.
 -- Assumes nothing.
-use Prim.Native.Nat.{_^_, _%_, zero, suc, ℕ, _+_, _-_, _*_, _/_, _≤_, _<_}
+use Prim.Native.Nat.{_^_, _%_, ℕ, _+_, _-_, _*_, _/_, _≤_, _<_}
 use mathlib.Core.Bool.{Bool, true, false, cond}
 use mathlib.Core.List.{List, [], _∷_, _++_, map}
 use mathlib.Core.Option.{Option, none, some}
@@ -14,8 +14,8 @@ use Rattle.machine.specs.Bits.{bit}
 use Rattle.machine.specs.Lists.{Each}
 use Rattle.machine.proofs.Below.{below}
 use Rattle.machine.proofs.Each.{each-head, each-tail, each-map}
-use Rattle.video.specs.Pattern.{lowBytes, wordOf, pixelBytes, spreadWord}
-use Rattle.video.specs.Registers.{patternWeights, patternColour, patternColours, complemented}
+use Rattle.video.specs.Internal.{lowBytes, wordOf, pixelBytes, spreadWord}
+use Rattle.video.specs.Pattern.{patternWeights, patternColours, complemented}
 use Rattle.video.proofs.Choice.{cond-all, complemented-most, pattern-map}
 
 pub low-bytes : (bs : List ℕ) → Each (λ (b : ℕ). b < 256) bs → lowBytes (length bs) (wordOf bs) ≡ bs

@@ -4,19 +4,31 @@ use Prim.Native.Nat.{ℕ, _+_, _*_, _/_, _%_}
 use mathlib.Core.Bool.{Bool, cond, _&&_}
 use lib.Dec.{ltb}
 use Rattle.machine.specs.Bits.{bit}
+use Rattle.machine.specs.Sizes.{columns}
 
 -- bit 2 of the mode chooses hires, else text
 abbrev pub isHires : ℕ → Bool
 isHires mode = bit 4 mode
 
--- lines 0 to 199 in hires show their screen bytes as patterns
+-- lines 0 to 199 can show a bitmap
+abbrev pub bitmapLines : ℕ
+bitmapLines = 200
+
+-- those in hires show their screen bytes as patterns
 abbrev pub isBitmap : ℕ → ℕ → Bool
-isBitmap line mode = ltb line 200 && isHires mode
+isBitmap line mode = ltb line bitmapLines && isHires mode
+
+-- where the screen bytes of a line begin in text: eight lines share a row
+abbrev pub textStart : ℕ → ℕ
+textStart line = 0xBB80 + columns * (line / 8)
+
+-- and in hires: lines 200 to 223 are as text
+abbrev pub hiresStart : ℕ → ℕ
+hiresStart line = cond (ltb line bitmapLines) (0xA000 + columns * line) (textStart line)
 
 -- the address of a cell's screen byte
 abbrev pub screenAddress : ℕ → ℕ → ℕ → ℕ
-screenAddress line column mode =
-    cond (isBitmap line mode) (0xA000 + 40 * line + column) (0xBB80 + 40 * (line / 8) + column)
+screenAddress line column mode = cond (isHires mode) (hiresStart line) (textStart line) + column
 
 -- the address of the character set, where one is used
 abbrev pub characterSet : ℕ → ℕ

@@ -1,17 +1,20 @@
 -- One cell, and what is read off a list of cells: pixels, used addresses, the mode that is left.
 -- Assumes nothing.
-use Prim.Native.Nat.{ℕ, _+_, _*_, _%_}
-use mathlib.Core.Bool.{Bool, cond, _||_}
+use Prim.Native.Nat.{ℕ, _%_}
+use mathlib.Core.Bool.{cond, _||_}
 use mathlib.Core.List.{List, [], _∷_, map, flatMap, flatten, Option·toList}
 use mathlib.Core.Option.{Option, none, some}
-use lib.ListN.{getD, length, replicate}
+use lib.ListN.{replicate}
+use Rattle.machine.specs.Image.{Image, byteAt}
+use Rattle.machine.specs.Sizes.{cellLength}
 use Rattle.video.specs.Address.{isBitmap, screenAddress, characterAddress}
-use Rattle.video.specs.Registers.{isAttribute, latched, shownInk, patternColours, complemented}
+use Rattle.video.specs.Pattern.{patternColours, complemented}
+use Rattle.video.specs.Registers.{isAttribute, latched, shownInk}
 use Rattle.video.specs.declared.registers.Registers.{Registers}
 
 -- the screen byte of a cell; the mode is the one in force, before the byte is read
-unfoldable pub screenByte : List ℕ → ℕ → ℕ → ℕ → ℕ
-screenByte memory line column mode = getD memory (screenAddress line column mode) 0
+unfoldable pub screenByte : Image → ℕ → ℕ → ℕ → ℕ
+screenByte image line column mode = byteAt image (screenAddress line column mode)
 
 -- the registers that a screen byte leaves: an attribute changes one, a picture none
 unfoldable pub registersAfter : Registers → ℕ → Registers
@@ -24,16 +27,16 @@ characterUsed line before byte =
     (some (characterAddress line (before .mode) (before .style) (byte % 128)))
 
 -- a picture's pattern: of its character byte if it uses one, else of the screen byte itself
-abbrev pub pattern : List ℕ → ℕ → Option ℕ → ℕ
-pattern memory byte none = byte % 64
-pattern memory byte (some address) = getD memory address 0 % 64
+abbrev pub pattern : Image → ℕ → Option ℕ → ℕ
+pattern image byte none = byte % 64
+pattern image byte (some address) = byteAt image address % 64
 
 -- the six colours of a cell: six of paper, the new one, for an attribute; else the pattern; complemented last
-unfoldable pub coloursOf : List ℕ → ℕ → ℕ → Registers → ℕ → List ℕ
-coloursOf memory counter line before byte =
+unfoldable pub coloursOf : Image → ℕ → ℕ → Registers → ℕ → List ℕ
+coloursOf image counter line before byte =
     map (complemented byte)
-    (cond (isAttribute byte) (replicate 6 (registersAfter before byte .paper))
-    (patternColours (shownInk before counter) (before .paper) (pattern memory byte (characterUsed line before byte))))
+    (cond (isAttribute byte) (replicate cellLength (registersAfter before byte .paper))
+    (patternColours (shownInk before counter) (before .paper) (pattern image byte (characterUsed line before byte))))
 
 -- a painted cell: its line, the mode in force (document 01), the addresses that it used, its colours and the registers that it leaves
 pub record Cell : Type 0 where
@@ -45,15 +48,15 @@ pub record Cell : Type 0 where
   pub registers : Registers
 
 -- the cell at a column, from the registers before it
-unfoldable pub cell : List ℕ → ℕ → ℕ → ℕ → Registers → Cell
-cell memory counter line column before =
-    let byte = screenByte memory line column (before .mode) in
+unfoldable pub cell : Image → ℕ → ℕ → ℕ → Registers → Cell
+cell image counter line column before =
+    let byte = screenByte image line column (before .mode) in
     record {
       line = line;
       mode = before .mode;
       screen = screenAddress line column (before .mode);
       character = characterUsed line before byte;
-      colours = coloursOf memory counter line before byte;
+      colours = coloursOf image counter line before byte;
       registers = registersAfter before byte;
     }
 

@@ -1,13 +1,18 @@
--- What holds of every frame, stated over the rules alone; the proofs are in proofs/.
+-- What holds of every line and every frame, stated over the rules alone; the proofs are in proofs/.
 -- Assumes nothing.
-use Prim.Native.Nat.{ℕ, _≤_, _<_}
+use Prim.Native.Nat.{ℕ, _+_, _*_, _≤_, _<_}
 use mathlib.Core.List.{List, [], _∷_, Option·toList}
 use mathlib.Core.Path.{_≡_}
-use lib.ListN.{getD}
+use lib.ListN.{getD, length}
+use Rattle.machine.specs.Image.{Image, byteAt}
 use Rattle.machine.specs.Lists.{Each}
+use Rattle.machine.specs.Sizes.{cellLength, columns, lines}
 use Rattle.video.specs.Cell.{Cell, pixels, screenAddresses, used}
 use Rattle.video.specs.Frame.{modeBefore, frameCells}
+use Rattle.video.specs.Line.{cellAt, lineCells}
+use Rattle.video.specs.Answer.{painted}
 use Rattle.video.specs.Region.{In, screenRegion, definitionRegion}
+use Rattle.video.specs.State.{Within, afterFrame}
 use Rattle.video.specs.declared.state.State.{State}
 
 -- a cell's addresses lie in the regions of its line and the mode in force
@@ -22,33 +27,72 @@ InForce mode [] = Unit {0}
 InForce mode (c ∷ cells) = (c .mode ≡ mode) × InForce (c .registers .mode) cells
 
 -- two images hold the same bytes at each of the addresses
-abbrev pub Agree : List ℕ → List ℕ → List ℕ → Type 0
-Agree first second addresses = Each (λ (address : ℕ). getD first address 0 ≡ getD second address 0) addresses
+abbrev pub Agree : Image → Image → List ℕ → Type 0
+Agree first second addresses = Each (λ (address : ℕ). byteAt first address ≡ byteAt second address) addresses
+
+-- a number is a colour, 0 to 7
+abbrev pub Colour : ℕ → Type 0
+Colour pixel = pixel ≤ 7
 
 -- each used address lies in its region
 abbrev pub RegionsHold : Type 0
-RegionsHold = (memory : List ℕ) (state : State) → Each Placed (frameCells memory state)
+RegionsHold = (image : Image) (state : State) → Each Placed (frameCells image state)
 
 -- the mode in force is carried from cell to cell, across line ends too
 abbrev pub ModesCarry : Type 0
-ModesCarry = (memory : List ℕ) (state : State) → InForce (state .mode) (frameCells memory state)
+ModesCarry = (image : Image) (state : State) → InForce (state .mode) (frameCells image state)
 
 -- each used address is below the ROM and the overlay
 abbrev pub UsedBelowOverlay : Type 0
-UsedBelowOverlay = (memory : List ℕ) (state : State) → Each (λ (address : ℕ). address < 0xC000) (used (frameCells memory state))
+UsedBelowOverlay = (image : Image) (state : State) → Each (λ (address : ℕ). address < 0xC000) (used (frameCells image state))
 
--- each pixel is a colour, 0 to 7
-abbrev pub PixelsAreColours : Type 0
-PixelsAreColours = (memory : List ℕ) (state : State) → Each (λ (pixel : ℕ). pixel ≤ 7) (pixels (frameCells memory state))
+-- each pixel of a line is a colour
+abbrev pub LineOfColours : Type 0
+LineOfColours = (image : Image) (counter line mode : ℕ) → Each Colour (pixels (lineCells image counter line mode))
+
+-- each pixel of a frame is a colour
+abbrev pub FrameOfColours : Type 0
+FrameOfColours = (image : Image) (state : State) → Each Colour (pixels (frameCells image state))
+
+-- a line uses 40 screen bytes
+abbrev pub LineUsesScreenBytes : Type 0
+LineUsesScreenBytes = (image : Image) (counter line mode : ℕ) → length (screenAddresses (lineCells image counter line mode)) ≡ columns
+
+-- a frame uses 8,960 screen bytes
+abbrev pub FrameUsesScreenBytes : Type 0
+FrameUsesScreenBytes = (image : Image) (state : State) → length (screenAddresses (frameCells image state)) ≡ columns * lines
+
+-- a frame that begins in a state within its limits leaves one that is
+abbrev pub StatesStayWithin : Type 0
+StatesStayWithin =
+    (image : Image) (state : State) → Within state → Within (painted (afterFrame state) (frameCells image state) .state)
+
+-- cell 40 x line + column of a frame is the cell at that line and column
+abbrev pub CellOfFrame : Type 0
+CellOfFrame =
+    (image : Image) (state : State) (line column : ℕ) (other : Cell) → line < lines → column < columns
+    → getD (frameCells image state) (columns * line + column) other
+    ≡ cellAt image (state .counter) line (modeBefore image (state .mode) line) column
+
+-- pixel 6 x i + k of cells of six colours is colour k of cell i
+abbrev pub PixelOfCell : Type 0
+PixelOfCell =
+    (cells : List Cell) (i k : ℕ) (other : Cell) → Each (λ (c : Cell). length (c .colours) ≡ cellLength) cells
+    → i < length cells → k < cellLength
+    → getD (pixels cells) (cellLength * i + k) 0 ≡ getD (getD cells i other .colours) k 0
+
+-- each cell of a frame has six colours
+abbrev pub CellsOfSix : Type 0
+CellsOfSix = (image : Image) (state : State) → Each (λ (c : Cell). length (c .colours) ≡ cellLength) (frameCells image state)
 
 -- the modes before the lines and after the last depend on the screen bytes alone
 abbrev pub PathByScreenBytes : Type 0
 PathByScreenBytes =
-    (first second : List ℕ) (state : State) → Agree first second (screenAddresses (frameCells first state))
-    → (line : ℕ) → line ≤ 224 → modeBefore second (state .mode) line ≡ modeBefore first (state .mode) line
+    (first second : Image) (state : State) → Agree first second (screenAddresses (frameCells first state))
+    → (line : ℕ) → line ≤ lines → modeBefore second (state .mode) line ≡ modeBefore first (state .mode) line
 
 -- a frame depends on the bytes at its used addresses alone
 abbrev pub FrameByUsedBytes : Type 0
 FrameByUsedBytes =
-    (first second : List ℕ) (state : State) → Agree first second (used (frameCells first state))
+    (first second : Image) (state : State) → Agree first second (used (frameCells first state))
     → frameCells second state ≡ frameCells first state

@@ -3,9 +3,9 @@ pub mod Address
 pub mod Registers
 pub mod Pattern
 pub mod Cell
-pub mod Painting
 pub mod Line
 pub mod Frame
 pub mod Answer
 pub mod Region
 pub mod Laws
+pub mod Internal

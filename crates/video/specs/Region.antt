@@ -4,7 +4,7 @@ use Prim.Native.Nat.{ℕ, _≤_}
 use mathlib.Core.Bool.{cond}
 use mathlib.Core.Option.{Option, none, some}
 use lib.Dec.{ltb}
-use Rattle.video.specs.Address.{isHires}
+use Rattle.video.specs.Address.{isHires, bitmapLines}
 
 -- the addresses from the first to the last, both included
 pub record Region : Type 0 where
@@ -20,11 +20,11 @@ In (some region) address = (region .first ≤ address) × (address ≤ region .l
 abbrev pub screenRegion : ℕ → ℕ → Option Region
 screenRegion line mode =
     some
-    (cond (ltb line 200) (cond (isHires mode) (record { first = 0xA000; last = 0xBF3F }) (record { first = 0xBB80; last = 0xBF67 }))
+    (cond (ltb line bitmapLines) (cond (isHires mode) (record { first = 0xA000; last = 0xBF3F }) (record { first = 0xBB80; last = 0xBF67 }))
     (record { first = 0xBF68; last = 0xBFDF }))
 
 -- (document 01: region of definitions)
 abbrev pub definitionRegion : ℕ → ℕ → Option Region
 definitionRegion line mode =
-    cond (ltb line 200) (cond (isHires mode) none (some (record { first = 0xB400; last = 0xBBFF })))
+    cond (ltb line bitmapLines) (cond (isHires mode) none (some (record { first = 0xB400; last = 0xBBFF })))
     (some (cond (isHires mode) (record { first = 0x9800; last = 0x9FFF }) (record { first = 0xB400; last = 0xBBFF })))

@@ -1,15 +1,14 @@
 -- The four registers, and which bytes change them.
 -- Assumes nothing.
-use Prim.Native.Nat.{ℕ, _/_, _%_, _-_}
+use Prim.Native.Nat.{ℕ, _/_, _%_}
 use mathlib.Core.Bool.{Bool, cond, _&&_}
-use mathlib.Core.List.{List, [], _∷_, map}
 use lib.Dec.{eqb, ltb, leb}
 use Rattle.machine.specs.Bits.{bit}
 use Rattle.video.specs.declared.registers.Registers.{Registers}
 
 -- at the start of each line ink is 7, style and paper are 0; the mode carries over
-abbrev pub lineStart : ℕ → Registers
-lineStart mode = record { ink = 7; style = 0; paper = 0; mode = mode }
+abbrev pub lineReset : ℕ → Registers
+lineReset mode = record { ink = 7; style = 0; paper = 0; mode = mode }
 
 -- a byte is an attribute exactly when bits 5 and 6 are both 0
 abbrev pub isAttribute : ℕ → Bool
@@ -26,19 +25,3 @@ latched before byte =
 -- ink pixels show paper while the style flashes (bit 2) and the counter is 16 or more
 abbrev pub shownInk : Registers → ℕ → ℕ
 shownInk registers counter = cond (bit 4 (registers .style) && leb 16 counter) (registers .paper) (registers .ink)
-
--- the weights of a pattern's six bits, the leftmost pixel first
-abbrev pub patternWeights : List ℕ
-patternWeights = 32 ∷ 16 ∷ 8 ∷ 4 ∷ 2 ∷ 1 ∷ []
-
--- a pattern's bit shows ink where it is 1, paper where it is 0
-abbrev pub patternColour : ℕ → ℕ → ℕ → ℕ → ℕ
-patternColour ink paper pattern weight = cond (bit weight pattern) ink paper
-
--- the six pixels of a pattern
-abbrev pub patternColours : ℕ → ℕ → ℕ → List ℕ
-patternColours ink paper pattern = map (patternColour ink paper pattern) patternWeights
-
--- bit 7 of the screen byte turns each colour c into 7 - c
-abbrev pub complemented : ℕ → ℕ → ℕ
-complemented byte colour = cond (bit 128 byte) (7 - colour) colour

@@ -1,10 +1,13 @@
 // What a painting answers.
 ghost use mathlib.Core.Path.{_≡_};
-ghost use Rattle.machine.specs.Refusal.{refusal};
-ghost use Rattle.video.specs.Answer.{paintingChecks, unpainted};
+ghost use Prim.Native.Nat.{_≤_, _<_, _^_};
+ghost use Rattle.machine.specs.Refusal.{given, memoryCheck, outputCheck, modeCheck, counterCheck};
+ghost use Rattle.machine.specs.Sizes.{lastMode};
+ghost use Rattle.video.specs.Answer.{unpainted};
+ghost use Rattle.video.specs.Internal.{answered};
 use crate::state::State;
+use machine::DONE;
 use machine::counter_refusal;
-use machine::first_refusal;
 use machine::memory_refusal;
 use machine::mode_refusal;
 use machine::output_refusal;
@@ -19,18 +22,18 @@ pub struct Painted {
     pub character: u32,
 }
 
-// The refusals that lines and frames share, 1 to 4.
-pub(crate) fn painting_refusal(memory: usize, wanted: usize, output: usize, state: State) -> u8
-    ensures { λ r. ⌜ r ≡ refusal (paintingChecks memory wanted output state) ⌝ }
+// Refusals 1, 2, 3, 4, which lines and frames share.
+pub(crate) fn painting_refusal(
+    memory: usize,
+    wanted: usize,
+    output: usize,
+    state: State,
+    later: u8,
+) -> u8
+    ensures { λ r. ⌜ r ≡ given (memoryCheck memory) (given (outputCheck wanted output) (given (modeCheck (state .mode)) (given (counterCheck (state .counter)) later))) ⌝ }
 {
-    let wrong_memory = memory_refusal(memory);
-    let wrong_output = output_refusal(wanted, output);
-    let wrong_mode = mode_refusal(state.mode);
-    let wrong_counter = counter_refusal(state.counter);
-    first_refusal(
-        wrong_memory,
-        first_refusal(wrong_output, first_refusal(wrong_mode, wrong_counter)),
-    )
+    let wrong_state = mode_refusal(state.mode, counter_refusal(state.counter, later));
+    memory_refusal(memory, output_refusal(wanted, output, wrong_state))
 }
 
 pub(crate) fn refused(status: u8, state: State) -> Painted
@@ -41,5 +44,20 @@ pub(crate) fn refused(status: u8, state: State) -> Painted
         state,
         screen: 0,
         character: 0,
+    }
+}
+
+// The state in the mode that was left, and the counts.
+pub(crate) fn answer(state: State, mode: u64, screen: u64, character: u64) -> Painted
+    requires { ⌜ mode ≤ lastMode ⌝ }
+    requires { ⌜ (screen < 2 ^ 32) × (character < 2 ^ 32) ⌝ }
+    ensures { λ r. ⌜ r ≡ answered state mode screen character ⌝ }
+{
+    let left = state.with_mode(mode as u8);
+    Painted {
+        status: DONE,
+        state: left,
+        screen: screen as u32,
+        character: character as u32,
     }
 }

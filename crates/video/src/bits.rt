@@ -1,10 +1,9 @@
-// Tests and choices without a branch in the caller.
+// Tests and choices without a jump: both values are made before one is chosen.
 ghost use mathlib.Core.Path.{_≡_};
-ghost use mathlib.Core.Bool.{cond};
+ghost use mathlib.Core.Bool.{cond, _&&_};
 ghost use Prim.Native.Nat.{_<_, _≤_, max};
 ghost use Rattle.machine.specs.Bits.{bit as Bits·bit};
 
-// A byte as a word. What a loop carries is in words: values of a few bytes would be packed and unpacked in each turn.
 pub(crate) fn wide(byte: u8) -> u64
     ensures { λ r. ⌜ r ≡ byte ⌝ }
 {
@@ -17,6 +16,12 @@ pub(crate) fn bit(weight: u64, value: u64) -> bool
     ensures { λ r. ⌜ r ≡ Bits·bit weight value ⌝ }
 {
     value / weight % 2 == 1
+}
+
+pub(crate) fn both(first: bool, second: bool) -> bool
+    ensures { λ r. ⌜ r ≡ (first && second) ⌝ }
+{
+    if first { second } else { false }
 }
 
 pub(crate) fn choose(test: bool, yes: u64, no: u64) -> u64

@@ -1,29 +1,31 @@
 // One frame: 224 lines, each painted where it belongs in the lent frame.
 ghost use mathlib.Core.Path.{_≡_};
-ghost use Prim.Native.Nat.{_≤_, _<_};
 ghost use lib.ListN.{length};
-ghost use Rattle.video.specs.State.{nextCounter};
+ghost use Rattle.machine.specs.Image.{IsImage};
+ghost use Rattle.machine.specs.Sizes.{frameLength};
+ghost use Rattle.video.specs.Answer.{painted, frameAnswer, frameContents};
 ghost use Rattle.video.specs.Cell.{pixels};
 ghost use Rattle.video.specs.Frame.{frameCells};
-ghost use Rattle.video.specs.Answer.{painted, frameAnswer, frameContents};
+ghost use Rattle.video.specs.State.{Within, afterFrame};
 use crate::answer::Painted;
+use crate::answer::answer;
 use crate::answer::painting_refusal;
 use crate::answer::refused;
-use crate::line::LINE_LENGTH;
+use crate::bits::wide;
 use crate::line::fill_line;
+use crate::registers::Registers;
 use crate::state::State;
-use crate::state::next_counter;
 use machine::DONE;
+use machine::FRAME_LENGTH;
+use machine::LINE_LENGTH;
 use machine::LINES;
-
-pub const FRAME_LENGTH: usize = 53_760;
 
 // One painted frame. Refusals 1, 2, 3, 4.
 pub fn paint_frame(memory: &[u8], state: State, frame: &mut [u8]) -> Painted
     ensures { λ r. ⌜ r ≡ frameAnswer (now (memory .entry)) state (now (frame .entry)) ⌝ }
     ensures { λ r. ⌜ now (frame .exit) ≡ frameContents (now (memory .entry)) state (now (frame .entry)) ⌝ }
 {
-    let status = painting_refusal(memory.len(), FRAME_LENGTH, frame.len(), state);
+    let status = painting_refusal(memory.len(), FRAME_LENGTH, frame.len(), state, DONE);
     if status != DONE {
         return refused(status, state);
     }
@@ -31,31 +33,29 @@ pub fn paint_frame(memory: &[u8], state: State, frame: &mut [u8]) -> Painted
 }
 
 fn fill_frame(memory: &[u8], state: State, frame: &mut [u8]) -> Painted
-    requires { ⌜ length (now memory) ≡ 65536 ⌝ }
-    requires { ⌜ length (now frame) ≡ 53760 ⌝ }
-    requires { ⌜ state .counter ≤ 31 ⌝ }
-    ensures { λ r. ⌜ r ≡ painted (nextCounter (state .counter)) (state .mode) (frameCells (now (memory .entry)) state) ⌝ }
+    requires { ⌜ IsImage (now memory) ⌝ }
+    requires { ⌜ length (now frame) ≡ frameLength ⌝ }
+    requires { ⌜ Within state ⌝ }
+    ensures { λ r. ⌜ r ≡ painted (afterFrame state) (frameCells (now (memory .entry)) state) ⌝ }
     ensures { λ r. ⌜ now (frame .exit) ≡ pixels (frameCells (now (memory .entry)) state) ⌝ }
 {
-    let mut reached = state;
-    let mut screen: u32 = 0;
-    let mut character: u32 = 0;
+    let mut registers = Registers::at_line_start(wide(state.mode));
+    let mut screen: u64 = 0;
+    let mut character: u64 = 0;
     let mut line: usize = 0;
     while line < LINES {
         let from = LINE_LENGTH * line;
-        let answer = fill_line(memory, reached, line, &mut frame[from..from + LINE_LENGTH]);
-        reached = answer.state;
-        screen += answer.screen;
-        character += answer.character;
+        let painted = fill_line(
+            memory,
+            state.counter,
+            line,
+            registers,
+            &mut frame[from..from + LINE_LENGTH],
+        );
+        registers = painted.registers;
+        screen += painted.screen;
+        character += painted.character;
         line += 1;
     }
-    Painted {
-        status: DONE,
-        state: State {
-            mode: reached.mode,
-            counter: next_counter(state.counter),
-        },
-        screen,
-        character,
-    }
+    answer(state.after_frame(), registers.mode, screen, character)
 }

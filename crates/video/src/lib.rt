@@ -1,4 +1,4 @@
-// The video half of the ULA: from the memory image and the state that the last frame left, the picture and the next state.
+// The video half of the ULA: from the memory image and the state that the last frame left, the frame and the next state.
 mod address;
 mod answer;
 mod bits;
@@ -12,9 +12,7 @@ mod state;
 pub use address::ScreenAddress;
 pub use address::screen_address;
 pub use answer::Painted;
-pub use frame::FRAME_LENGTH;
 pub use frame::paint_frame;
-pub use line::LINE_LENGTH;
 pub use line::paint_line;
 pub use state::State;
 pub use state::fresh_state;

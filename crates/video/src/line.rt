@@ -3,52 +3,65 @@ ghost use mathlib.Core.Path.{_≡_};
 ghost use Prim.Native.Nat.{_<_};
 ghost use mathlib.Core.List.{map};
 ghost use lib.ListN.{length};
+ghost use Rattle.machine.specs.Image.{IsImage};
+ghost use Rattle.machine.specs.Sizes.{columns, lines, lineLength};
+ghost use Rattle.video.specs.Answer.{lineAnswer, lineContents};
 ghost use Rattle.video.specs.Cell.{Cell, pixels};
+ghost use Rattle.video.specs.Internal.{paintedLine};
 ghost use Rattle.video.specs.Line.{lineCells};
-ghost use Rattle.video.specs.Answer.{painted, lineRefusal, lineAnswer, lineContents};
-use crate::address::source_of;
+use crate::address::Scanline;
 use crate::answer::Painted;
+use crate::answer::answer;
 use crate::answer::painting_refusal;
 use crate::answer::refused;
 use crate::bits::wide;
 use crate::cell::paint_cell;
 use crate::registers::Registers;
 use crate::state::State;
+use machine::CELL_LENGTH;
 use machine::COLUMNS;
 use machine::DONE;
-use machine::first_refusal;
+use machine::LINE_LENGTH;
 use machine::line_refusal;
 
-pub const LINE_LENGTH: usize = 240;
-
-const CELL_LENGTH: usize = 6;
-
-// A byte that changes no register, in place of an attribute where none has been latched yet.
-const PICTURE: u8 = 0x40;
+// The registers that a line leaves, and how many screen bytes and character bytes it used.
+pub(crate) struct PaintedLine {
+    pub registers: Registers,
+    pub screen: u64,
+    pub character: u64,
+}
 
 // One painted line. Refusals 1, 2, 3, 4, 5.
 pub fn paint_line(memory: &[u8], state: State, line: usize, output: &mut [u8]) -> Painted
     ensures { λ r. ⌜ r ≡ lineAnswer (now (memory .entry)) state line (now (output .entry)) ⌝ }
     ensures { λ r. ⌜ now (output .exit) ≡ lineContents (now (memory .entry)) state line (now (output .entry)) ⌝ }
 {
-    let wrong_painting = painting_refusal(memory.len(), LINE_LENGTH, output.len(), state);
-    let wrong_line = line_refusal(line);
-    let status = first_refusal(wrong_painting, wrong_line);
+    let wrong_line = line_refusal(line, DONE);
+    let status = painting_refusal(memory.len(), LINE_LENGTH, output.len(), state, wrong_line);
     if status != DONE {
         return refused(status, state);
     }
-    fill_line(memory, state, line, output)
+    let before = Registers::at_line_start(wide(state.mode));
+    let painted = fill_line(memory, state.counter, line, before, output);
+    let registers = painted.registers;
+    answer(state, registers.mode, painted.screen, painted.character)
 }
 
-pub(crate) fn fill_line(memory: &[u8], state: State, line: usize, output: &mut [u8]) -> Painted
-    requires { ⌜ length (now memory) ≡ 65536 ⌝ }
-    requires { ⌜ length (now output) ≡ 240 ⌝ }
-    requires { ⌜ line < 224 ⌝ }
-    ensures { λ r. ⌜ r ≡ painted (state .counter) (state .mode) (lineCells (now (memory .entry)) (state .counter) line (state .mode)) ⌝ }
-    ensures { λ r. ⌜ now (output .exit) ≡ pixels (lineCells (now (memory .entry)) (state .counter) line (state .mode)) ⌝ }
+pub(crate) fn fill_line(
+    memory: &[u8],
+    counter: u8,
+    line: usize,
+    before: Registers,
+    output: &mut [u8],
+) -> PaintedLine
+    requires { ⌜ IsImage (now memory) ⌝ }
+    requires { ⌜ line < lines ⌝ }
+    requires { ⌜ length (now output) ≡ lineLength ⌝ }
+    ensures { λ r. ⌜ r ≡ paintedLine (now (memory .entry)) counter line (before .mode) ⌝ }
+    ensures { λ r. ⌜ now (output .exit) ≡ pixels (lineCells (now (memory .entry)) counter line (before .mode)) ⌝ }
 {
     let mut cells = [[0u8; 6]; 40];
-    let answer = paint_cells(memory, state, line, &mut cells);
+    let painted = paint_cells(memory, counter, line, before, &mut cells);
     let mut column: usize = 0;
     while column < COLUMNS {
         let from = CELL_LENGTH * column;
@@ -59,51 +72,39 @@ pub(crate) fn fill_line(memory: &[u8], state: State, line: usize, output: &mut [
         }
         column += 1;
     }
-    answer
+    painted
 }
 
-fn paint_cells(memory: &[u8], state: State, line: usize, cells: &mut [[u8; 6]; 40]) -> Painted
-    requires { ⌜ length (now memory) ≡ 65536 ⌝ }
-    requires { ⌜ length (now cells) ≡ 40 ⌝ }
-    requires { ⌜ line < 224 ⌝ }
-    ensures { λ r. ⌜ r ≡ painted (state .counter) (state .mode) (lineCells (now (memory .entry)) (state .counter) line (state .mode)) ⌝ }
-    ensures { λ r. ⌜ now (cells .exit) ≡ map (λ (c : Cell). c .colours) (lineCells (now (memory .entry)) (state .counter) line (state .mode)) ⌝ }
+fn paint_cells(
+    memory: &[u8],
+    counter: u8,
+    line: usize,
+    before: Registers,
+    cells: &mut [[u8; 6]; 40],
+) -> PaintedLine
+    requires { ⌜ IsImage (now memory) ⌝ }
+    requires { ⌜ line < lines ⌝ }
+    requires { ⌜ length (now cells) ≡ columns ⌝ }
+    ensures { λ r. ⌜ r ≡ paintedLine (now (memory .entry)) counter line (before .mode) ⌝ }
+    ensures { λ r. ⌜ now (cells .exit) ≡ map (λ (c : Cell). c .colours) (lineCells (now (memory .entry)) counter line (before .mode)) ⌝ }
 {
-    let mut registers = Registers::carrying(wide(state.mode)).line_reset();
-    let mut source = source_of(line, registers);
-    let mut paint = registers.paint_colours(state.counter);
-    let mut latched = PICTURE;
-    let mut screen: u32 = 0;
+    let place = Scanline::new(line);
+    let mut registers = before.line_reset();
+    let mut screen: u64 = 0;
     let mut character: u64 = 0;
     let mut column: usize = 0;
     while column < COLUMNS {
-        let cell = paint_cell(
-            memory,
-            state.counter,
-            line,
-            column,
-            registers,
-            source,
-            paint,
-            latched,
-        );
+        let cell = paint_cell(memory, counter, place, column, registers);
         let colours = cell.colours;
         cells[column] = colours;
         registers = cell.registers;
-        source = cell.source;
-        paint = cell.paint;
-        latched = cell.latched;
         screen += 1;
-        character += cell.characters;
+        character += cell.character;
         column += 1;
     }
-    Painted {
-        status: DONE,
-        state: State {
-            mode: registers.mode as u8,
-            counter: state.counter,
-        },
+    PaintedLine {
+        registers,
         screen,
-        character: character as u32,
+        character,
     }
 }

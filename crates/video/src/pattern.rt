@@ -2,10 +2,10 @@
 ghost use mathlib.Core.Path.{_≡_};
 ghost use mathlib.Core.Bool.{cond};
 ghost use mathlib.Core.List.{map};
-ghost use Prim.Native.Nat.{_≤_, _<_, _-_};
+ghost use Prim.Native.Nat.{_≤_, _-_};
 ghost use Rattle.machine.specs.Bits.{bit as Bits·bit};
-ghost use Rattle.video.specs.Registers.{patternColours, complemented};
-ghost use Rattle.video.specs.Pattern.{pixelBytes, spreadWord};
+ghost use Rattle.video.specs.Internal.{pixelBytes, spreadWord};
+ghost use Rattle.video.specs.Pattern.{patternColours, complemented};
 use crate::bits::bit;
 use crate::bits::wide;
 
@@ -19,31 +19,25 @@ const ONES: u64 = 0x01010001010101;
 
 const WHITES: u64 = 0x07070007070707;
 
-// Two colours: one for the bits of a pattern that are 1, one for those that are 0.
-pub(crate) struct Paint {
-    pub ink: u64,
-    pub paper: u64,
+// The bit of a screen byte that complements its cell.
+const INVERSE: u64 = 128;
+
+// A pattern is the low six bits of its byte.
+pub(crate) fn pixels(ink: u64, paper: u64, pattern: u8, byte: u8) -> [u8; 6]
+    requires { ⌜ (ink ≤ 7) × (paper ≤ 7) ⌝ }
+    ensures { λ r. ⌜ r ≡ map (complemented byte) (patternColours ink paper pattern) ⌝ }
+{
+    let set = spread(pattern);
+    let word = ink * set + paper * (ONES - set);
+    bytes_of(complement(byte, word))
 }
 
-impl Paint {
-    // The pixels of a pattern, which is the low six bits of a byte, complemented where the screen byte says so.
-    pub(crate) fn pixels(self, pattern: u64, byte: u8) -> [u8; 6]
-        requires { ⌜ pattern < 256 ⌝ }
-        requires { ⌜ (self .ink ≤ 7) × (self .paper ≤ 7) ⌝ }
-        ensures { λ r. ⌜ r ≡ map (complemented byte) (patternColours (self .ink) (self .paper) pattern) ⌝ }
-    {
-        let set = spread(pattern);
-        let word = self.ink * set + self.paper * (ONES - set);
-        bytes_of(complement(byte, word))
-    }
-}
-
-// Bit 7 of the screen byte complements all six pixels at once: no byte borrows from the next.
+// All six pixels are complemented at once: no byte borrows from the next.
 fn complement(byte: u8, word: u64) -> u64
     requires { ⌜ word ≤ 0x07070007070707 ⌝ }
     ensures { λ r. ⌜ r ≡ cond (Bits·bit 128 byte) (0x07070007070707 - word) word ⌝ }
 {
-    if bit(128, wide(byte)) {
+    if bit(INVERSE, wide(byte)) {
         WHITES - word
     } else {
         word
@@ -51,11 +45,10 @@ fn complement(byte: u8, word: u64) -> u64
 }
 
 // 1 in the byte of each pixel that is set, the leftmost pixel in the lowest byte.
-fn spread(pattern: u64) -> u64
-    requires { ⌜ pattern < 256 ⌝ }
+fn spread(pattern: u8) -> u64
     ensures { λ r. ⌜ r ≡ spreadWord pattern ⌝ }
 {
-    pattern * COPIES / COPY_SHIFT & ONES
+    wide(pattern) * COPIES / COPY_SHIFT & ONES
 }
 
 // The bytes of a word that are pixels, the lowest first.

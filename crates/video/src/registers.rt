@@ -1,10 +1,13 @@
-// The four registers of the video half: they travel along a line as one value.
+// The four registers of the video half: they travel as one value from cell to cell and from line to line.
 ghost use mathlib.Core.Path.{_≡_};
-ghost use Rattle.video.specs.Painting.{paintOf};
-ghost use Rattle.video.specs.Registers.{lineStart, isAttribute, latched, shownInk};
+ghost use Prim.Native.Nat.{_≤_};
+ghost use Rattle.video.specs.Internal.{shown};
+ghost use Rattle.video.specs.Registers.{lineReset, isAttribute, latched, shownInk};
+use crate::bits::bit;
+use crate::bits::both;
 use crate::bits::choose;
 use crate::bits::wide;
-use crate::pattern::Paint;
+use crate::pattern::pixels;
 
 const WHITE: u64 = 7;
 
@@ -18,6 +21,7 @@ const FLASH: u64 = 4;
 // From this count on flashing ink is hidden.
 const HIDDEN_FROM: u8 = 16;
 
+// Words, and no bytes: four bytes would be packed into one word and unpacked in each cell.
 pub(crate) struct Registers {
     pub ink: u64,
     pub style: u64,
@@ -32,73 +36,72 @@ pub(crate) fn is_attribute(byte: u8) -> bool
 }
 
 impl Registers {
-    // A mode that is carried over; the line reset sets the rest.
-    pub(crate) fn carrying(mode: u64) -> Self
-        ensures { λ r. ⌜ r .mode ≡ mode ⌝ }
-    {
-        Self {
-            ink: BLACK,
-            style: PLAIN,
-            paper: BLACK,
-            mode,
-        }
-    }
-
-    pub(crate) fn line_reset(self) -> Self
-        ensures { λ r. ⌜ r ≡ lineStart (self .mode) ⌝ }
+    // The registers of a line that begins in a mode.
+    pub(crate) fn at_line_start(mode: u64) -> Self
+        ensures { λ r. ⌜ r ≡ lineReset mode ⌝ }
     {
         Self {
             ink: WHITE,
             style: PLAIN,
             paper: BLACK,
-            mode: self.mode,
+            mode,
         }
     }
 
-    // The low five bits choose the register, the low three are its value. A match for each register compiles to no jump.
+    // All but the mode begin anew.
+    pub(crate) fn line_reset(self) -> Self
+        ensures { λ r. ⌜ r ≡ lineReset (self .mode) ⌝ }
+    {
+        Self::at_line_start(self.mode)
+    }
+
+    // The low five bits choose the register, the low three are its value.
     pub(crate) fn latch_attribute(self, byte: u8) -> Self
         ensures { λ r. ⌜ r ≡ latched self byte ⌝ }
     {
         let choice = byte % 32;
         let value = wide(byte % 8);
-        let ink = match choice {
-            0..=7 => value,
-            _ => self.ink,
-        };
-        let style = match choice {
-            8..=15 => value,
-            _ => self.style,
-        };
-        let paper = match choice {
-            16..=23 => value,
-            _ => self.paper,
-        };
-        let mode = match choice {
-            0..=23 => self.mode,
-            _ => value,
-        };
-        Self {
-            ink,
-            style,
-            paper,
-            mode,
+        match choice {
+            0..=7 => Self {
+                ink: value,
+                style: self.style,
+                paper: self.paper,
+                mode: self.mode,
+            },
+            8..=15 => Self {
+                ink: self.ink,
+                style: value,
+                paper: self.paper,
+                mode: self.mode,
+            },
+            16..=23 => Self {
+                ink: self.ink,
+                style: self.style,
+                paper: value,
+                mode: self.mode,
+            },
+            _ => Self {
+                ink: self.ink,
+                style: self.style,
+                paper: self.paper,
+                mode: value,
+            },
         }
     }
 
-    // The colours that cells are painted in: ink as it shows at a count, and paper.
-    pub(crate) fn paint_colours(self, counter: u8) -> Paint
-        ensures { λ r. ⌜ r ≡ paintOf self counter ⌝ }
+    // The six pixels of a pattern, which is the low six bits of a byte, under a screen byte.
+    pub(crate) fn paint_colours(self, counter: u8, pattern: u8, byte: u8) -> [u8; 6]
+        requires { ⌜ (self .ink ≤ 7) × (self .paper ≤ 7) ⌝ }
+        ensures { λ r. ⌜ r ≡ shown self counter byte pattern ⌝ }
     {
-        Paint {
-            ink: self.shown_ink(counter),
-            paper: self.paper,
-        }
+        pixels(self.shown_ink(counter), self.paper, pattern, byte)
     }
 
+    // Ink, or paper in its place while it flashes.
     fn shown_ink(self, counter: u8) -> u64
         ensures { λ r. ⌜ r ≡ shownInk self counter ⌝ }
     {
-        let hidden = choose(counter >= HIDDEN_FROM, FLASH, 0);
-        choose(self.style & hidden != 0, self.paper, self.ink)
+        let hidden = both(bit(FLASH, self.style), counter >= HIDDEN_FROM);
+        choose(hidden, self.paper, self.ink)
     }
 }

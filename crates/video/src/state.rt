@@ -1,11 +1,11 @@
 // The state that one frame leaves and the next one begins with.
 ghost use mathlib.Core.Path.{_≡_};
 ghost use Prim.Native.Nat.{_≤_};
-ghost use Rattle.video.specs.State.{freshState, nextCounter};
+ghost use Rattle.machine.specs.Sizes.{lastCount};
+ghost use Rattle.video.specs.State.{freshState, withMode, nextCounter, afterFrame};
+use machine::LAST_COUNT;
 
 const FRESH_MODE: u8 = 2;
-
-const LAST_COUNT: u8 = 31;
 
 #[repr(C)]
 pub struct State {
@@ -24,8 +24,30 @@ pub fn fresh_state() -> State
     }
 }
 
-pub(crate) fn next_counter(counter: u8) -> u8
-    requires { ⌜ counter ≤ 31 ⌝ }
+impl State {
+    pub(crate) fn with_mode(self, mode: u8) -> Self
+        ensures { λ r. ⌜ r ≡ withMode mode self ⌝ }
+    {
+        State {
+            mode,
+            counter: self.counter,
+        }
+    }
+
+    // A frame moves the counter; its cells set the mode.
+    pub(crate) fn after_frame(self) -> Self
+        requires { ⌜ self .counter ≤ lastCount ⌝ }
+        ensures { λ r. ⌜ r ≡ afterFrame self ⌝ }
+    {
+        State {
+            mode: self.mode,
+            counter: next_counter(self.counter),
+        }
+    }
+}
+
+fn next_counter(counter: u8) -> u8
+    requires { ⌜ counter ≤ lastCount ⌝ }
     ensures { λ r. ⌜ r ≡ nextCounter counter ⌝ }
 {
     if counter == LAST_COUNT {

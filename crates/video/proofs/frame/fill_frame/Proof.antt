@@ -1,31 +1,32 @@
 -- `video::frame::fill_frame` meets its contract. The loop's invariant is `Reached`: the lines before a line are painted and counted.
 -- Assumes nothing.
 mod Progress
-use Prim.Native.Nat.{ℕ, _+_, _-_, _*_}
+use Prim.Native.Nat.{_+_, _-_, _*_}
 use mathlib.Core.Path.{ap, _∙_}
 use native.Mathlib.Omega.{arith}
 use denote.Ref.{now}
 use borrow.Rule.Slice.PartMut.{putMid}
+use Rattle.machine.specs.Sizes.{lines, lineLength}
 use Rattle.machine.proofs.Lists.{piece-size}
-use Rattle.video.specs.Answer.{painted}
-use Rattle.video.specs.Frame.{frameCells}
-use Rattle.video.proofs.Frames.{screens-down, characters-down}
+use Rattle.video.proofs.Frames.{characters-down, modes-small}
 use Rattle.video.proofs.frame.fill_frame.Proof.Progress.{Reached, none, next, all}
+use Rattle.video.specs.declared.registers.Registers.{Registers}
 use Rattle.video.proofs.frame.fill_frame.Statement.{statement}
 use Rattle.video.proofs.frame.fill_frame.Tie as tie
 
 abbrev Inv-loop : tie.InvT-loop
-Inv-loop memory state frame₀ reached₀ screen₀ character₀ line₀ frame reached screen character line =
-    Reached memory (state .counter) (state .mode) frame reached screen character line
+Inv-loop memory state frame₀ registers₀ screen₀ character₀ line₀ frame registers screen character line =
+    Reached memory state frame registers screen character line
 
 abbrev μ-loop : tie.MeasureT-loop
-μ-loop memory state frame₀ reached₀ screen₀ character₀ line₀ frame reached screen character line =
-    224 - line
+μ-loop memory state frame₀ registers₀ screen₀ character₀ line₀ frame registers screen character line =
+    lines - line
 
 loop-holds : tie.Need-loop-holds Inv-loop μ-loop
 loop-holds c =
-    let start = c .before .before in
-    none (now (start .args .memory)) (start .args .state .counter) (start .args .state .mode) (now (start .args .frame)) (start .pre .1 .0)
+    let start = c .before .before .before .before in
+    none (now (start .args .memory)) (start .args .state) (now (start .args .frame)) (c .at-line-start .result) (start .pre .1 .0)
+    (ap (λ (r : Registers). r .mode) (c .at-line-start .ensures) ∙ c .before .wide .ensures)
 
 mul-from : tie.Need-mul-from Inv-loop μ-loop
 mul-from c = omega arith
@@ -45,34 +46,31 @@ part-fill-line-end c = omega arith
 fill-line-requires : tie.Need-fill-line-requires Inv-loop μ-loop
 fill-line-requires c κs =
     let here = c .before .before .loop in
-    (c .before .before .before .before .before .pre .0, (piece-size 240 (here .line) (here .frame) (omega arith), omega arith))
+    let start = c .before .before .before .before .before .before .before in
+    (start .pre .0, (omega arith, piece-size lineLength (here .line) (here .frame) (omega arith)))
 
 -- one line more is painted
-grown : (c : tie.After-fill-line Inv-loop μ-loop)
-    → let here = c .before .before .before .loop in
-    let a = c .before .before .before .before .before .before .args in
-    let answer = c .fill-line .result in
-    Reached (now (a .memory)) (a .state .counter) (a .state .mode)
-    (putMid (240 * here .line) (240 * here .line + 240 - 240 * here .line) (here .frame) (c .fill-line .last .1 .1 .1 .0))
-    (answer .state) (here .screen + answer .screen) (here .character + answer .character) (here .line + 1)
-grown c =
-    let here = c .before .before .before .loop in
-    next _ _ _ _ _ _ _ _ (here .inv) (omega arith) (c .fill-line .last .1 .1 .1 .0) (c .fill-line .result) (c .fill-line .ensures .1) (c .fill-line .ensures .0)
+grown : (f : tie.After-fill-line Inv-loop μ-loop)
+    → let here = f .before .before .before .loop in
+    let a = f .before .before .before .before .before .before .before .before .args in
+    let answer = f .fill-line .result in
+    Reached (now (a .memory)) (a .state)
+    (putMid (lineLength * here .line) (lineLength * here .line + lineLength - lineLength * here .line) (here .frame) (f .fill-line .last .1 .1 .1 .1 .0))
+    (answer .registers) (here .screen + answer .screen) (here .character + answer .character) (here .line + 1)
+grown f =
+    next _ _ _ _ _ _ _ (f .before .before .before .loop .inv) (omega arith) (f .fill-line .last .1 .1 .1 .1 .0) (f .fill-line .result) (f .fill-line .ensures .1) (f .fill-line .ensures .0)
 
 loop-again : tie.Need-loop-again Inv-loop μ-loop
 loop-again c = grown (c .before .before .before .before .before)
 
 add-screen : tie.Need-add-screen Inv-loop μ-loop
-add-screen c =
-    let a = c .before .before .before .before .before .before .before .before .before .before .args in
-    let line = c .before .before .before .before .before .before .before .loop .line in
-    omega (arith, grown (c .before .before .before .before) .screens, screens-down (now (a .memory)) (a .state .counter) (a .state .mode) (line + 1))
+add-screen c = omega (arith, grown (c .before .before .before .before) .screens)
 
 add-character : tie.Need-add-character Inv-loop μ-loop
 add-character c =
-    let a = c .before .before .before .before .before .before .before .before .before .before .before .args in
-    let line = c .before .before .before .before .before .before .before .before .loop .line in
-    omega (arith, loop-again c .characters, characters-down (now (a .memory)) (a .state .counter) (a .state .mode) (line + 1))
+    let at = c .before .before .before .before .before .before .before .before in
+    let a = at .before .before .before .before .before .args in
+    omega (arith, loop-again c .characters, characters-down (now (a .memory)) (a .state .counter) (a .state .mode) (at .loop .line + 1))
 
 add-line : tie.Need-add-line Inv-loop μ-loop
 add-line c = omega arith
@@ -80,18 +78,26 @@ add-line c = omega arith
 loop-less : tie.Need-loop-less Inv-loop μ-loop
 loop-less c = omega arith
 
-next-counter-requires : tie.Need-next-counter-requires Inv-loop μ-loop
-next-counter-requires c κs = c .before .before .before .before .pre .1 .1
+after-frame-requires : tie.Need-after-frame-requires Inv-loop μ-loop
+after-frame-requires c κs = c .before .before .before .before .before .before .pre .1 .1 .counter
+
+answer-requires : tie.Need-answer-requires Inv-loop μ-loop
+answer-requires c κs =
+    let here = c .before .before .loop in
+    let start = c .before .before .before .before .before .before .before in
+    let a = start .args in
+    let mode = modes-small (now (a .memory)) (a .state .mode) (start .pre .1 .1 .mode) (here .line) in (
+      rw (here .inv .path) mode,
+      omega (arith, here .inv .characters, characters-down (now (a .memory)) (a .state .counter) (a .state .mode) (here .line)),
+    )
 
 same-length : tie.Need-same-length Inv-loop μ-loop
 same-length c = omega arith
 
 returns : tie.Need-returns Inv-loop μ-loop
 returns c =
-    let a = c .before .before .before .before .before .args in
-    let here = c .before .before .loop in
-    let done = all (now (a .memory)) (a .state .counter) (a .state .mode) _ _ _ _ _ (here .inv) (omega arith) (c .next-counter .result) in
-    (done .0 ∙ ap (λ (n : ℕ). painted n (a .state .mode) (frameCells (now (a .memory)) (a .state))) (c .next-counter .ensures), done .1)
+    let done = all _ _ _ _ _ _ _ (c .before .before .before .loop .inv) (omega arith) in
+    (c .answer .ensures ∙ rw (c .before .after-frame .ensures) (done .0), done .1)
 
 pub fill-frame-spec : {M : Type 1} → statement M
 fill-frame-spec =
@@ -99,6 +105,8 @@ fill-frame-spec =
     (tie.spec
     Inv-loop
     μ-loop
+    (λ c κs. tt)
+    (λ c κs. tt)
     loop-holds
     mul-from
     add-fill-line
@@ -111,6 +119,7 @@ fill-frame-spec =
     add-line
     loop-less
     loop-again
-    next-counter-requires
+    after-frame-requires
+    answer-requires
     same-length
     returns)

@@ -1,12 +1,16 @@
--- `video::paint_frame` meets its contract: the status is the refusal of its list, and decides between refusal and picture.
+-- `video::paint_frame` meets its contract: the status is the refusal of its list, and decides between refusal and frame.
 -- Assumes nothing.
+use mathlib.Core.List.{[]}
 use mathlib.Core.Path.{_≡_, sym, _∙_}
 use lib.ListN.{length}
 use denote.Ref.{now}
 use borrow.Author.Needs.{needs}
-use Rattle.video.specs.Answer.{frameRefusal}
+use Rattle.machine.specs.Sizes.{frameLength}
+use Rattle.video.specs.Answer.{frameRefusal, frameAnswer, frameContents}
+use Rattle.video.specs.Frame.{frameCells}
+use Rattle.video.specs.State.{afterFrame}
 use Rattle.video.proofs.Accepted.{accepted-painting}
-use Rattle.video.proofs.Answers.{frame-refused, frame-done}
+use Rattle.video.proofs.Answers.{painting-refused, painting-done}
 use Rattle.video.proofs.frame.paint_frame.Statement.{statement}
 use Rattle.video.proofs.frame.paint_frame.Tie as tie
 
@@ -15,40 +19,37 @@ accepted : (c : tie.Else1)
     → let a = c .before .before .before .before .args in frameRefusal (now (a .memory)) (a .state) (now (a .frame)) ≡ 0
 accepted c = sym (c .before .painting-refusal .ensures) ∙ c .if1 .left
 
-painting-refusal-requires : tie.Need-painting-refusal-requires
-painting-refusal-requires c κs = search needs
-
-refused-requires : tie.Need-refused-requires
-refused-requires c κs = search needs
-
 returns : tie.Need-returns
+unfolding frameAnswer frameContents
 returns c =
     let k = c .before .before in
     let a = k .before .before .before .args in
-    let left = frame-refused (now (a .memory)) (a .state) (now (a .frame)) (k .painting-refusal .result) (k .painting-refusal .ensures) (c .before .if1 .taken) in
+    let left = painting-refused (frameRefusal (now (a .memory)) (a .state) (now (a .frame))) (a .state) (afterFrame (a .state)) (frameCells (now (a .memory)) (a .state)) (now (a .frame)) _ (k .painting-refusal .ensures) (c .before .if1 .taken) in
     (c .refused .ensures ∙ left .0, left .1)
 
 fill-frame-requires : tie.Need-fill-frame-requires
 fill-frame-requires c κs =
     let a = c .before .before .before .before .before .args in
-    let known = accepted-painting (length (now (a .memory))) 53760 (length (now (a .frame))) (a .state) (accepted (c .before)) in
-    (known .image, (known .lent, known .counter))
+    let known = accepted-painting (length (now (a .memory))) frameLength (length (now (a .frame))) (a .state) [] (accepted (c .before)) in
+    (known .image, (known .lent, known .within))
 
 same-length : tie.Need-same-length
 same-length c = search needs
 
 returns-2 : tie.Need-returns-2
+unfolding frameAnswer frameContents
 returns-2 c =
-    let a = c .before .before .before .before .before .before .before .before .args in
-    let left = frame-done (now (a .memory)) (a .state) (now (a .frame)) (accepted (c .before .before .before .before)) in
-    (c .before .before .fill-frame .ensures .0 ∙ left .0, c .before .before .fill-frame .ensures .1 ∙ left .1)
+    let f = c .before .before in
+    let a = f .before .before .before .before .before .before .args in
+    let left = painting-done (frameRefusal (now (a .memory)) (a .state) (now (a .frame))) (a .state) (afterFrame (a .state)) (frameCells (now (a .memory)) (a .state)) (now (a .frame)) (accepted (f .before .before)) in
+    (f .fill-frame .ensures .0 ∙ left .0, f .fill-frame .ensures .1 ∙ left .1)
 
 pub paint-frame-spec : {M : Type 1} → statement M
 paint-frame-spec =
     tie.close
     (tie.spec
-    painting-refusal-requires
-    refused-requires
+    (λ c κs. tt)
+    (λ c κs. tt)
     returns
     fill-frame-requires
     same-length

@@ -3,16 +3,20 @@
 -- Assumes nothing.
 use Prim.Native.Nat.{ℕ, _≤_, _<_, _+_, _-_, _*_}
 use mathlib.Core.List.{List, [], _∷_, _++_, append-nil, append-assoc, flatten}
-use mathlib.Core.Path.{_≡_, refl, sym, ap, ap₂, _∙_}
+use mathlib.Core.Path.{_≡_, refl, sym, ap, _∙_}
 use native.Mathlib.Numerals.{add-one}
 use native.Mathlib.Omega.{arith}
-use lib.ListN.{length, take, getD, length-set}
+use lib.ListN.{length, take, getD, length-set, length-map}
 use lib.Seq.{take-suc, take-suc-set, take-all}
 use denote.Ref.{now}
 use borrow.Author.Needs.{needs}
+use Rattle.machine.specs.Lists.{Each}
+use Rattle.machine.specs.Sizes.{cellLength, columns, lineLength}
+use Rattle.machine.proofs.Each.{each-at}
 use Rattle.machine.proofs.Lists.{flatten-append}
-use Rattle.video.specs.Cell.{pixels}
-use Rattle.video.proofs.Lines.{Sixes, sixes}
+use Rattle.video.specs.Cell.{Cell, pixels}
+use Rattle.video.specs.Line.{lineCells}
+use Rattle.video.proofs.Lines.{Six, cells-length, line-sixes}
 use Rattle.video.proofs.line.fill_line.Statement.{statement}
 use Rattle.video.proofs.line.fill_line.Tie as tie
 
@@ -23,31 +27,47 @@ flatten-next cells column h =
     simp (add-one, take-suc cells column [] h, flatten-append (take column cells) (getD cells column [] ∷ []), append-nil)
 
 abbrev Inv-loop2 : tie.InvT-loop2
-Inv-loop2 memory line output₀ cells answer column from k₀ output k =
-    (k ≤ 6) × (length output ≡ 240) × (take (from + k) output ≡ flatten (take column cells) ++ take k (getD cells column []))
+Inv-loop2 memory counter line output₀ cells painted column from k₀ output k =
+    (k ≤ cellLength) × (length output ≡ lineLength) × (take (from + k) output ≡ flatten (take column cells) ++ take k (getD cells column []))
 
 abbrev μ-loop2 : tie.MeasureT-loop2
-μ-loop2 memory line output₀ cells answer column from k₀ output k = 6 - k
+μ-loop2 memory counter line output₀ cells painted column from k₀ output k = cellLength - k
 
 abbrev Inv-loop : tie.InvT-loop
-Inv-loop memory line output₀ cells answer column₀ output column =
-    (column ≤ 40) × (length output ≡ 240) × (take (6 * column) output ≡ flatten (take column cells))
+Inv-loop memory counter line output₀ cells painted column₀ output column =
+    (column ≤ columns) × (length output ≡ lineLength) × (take (cellLength * column) output ≡ flatten (take column cells))
 
 abbrev μ-loop : tie.MeasureT-loop
-μ-loop memory line output₀ cells answer column₀ output column = 40 - column
+μ-loop memory counter line output₀ cells painted column₀ output column = columns - column
 
 paint-cells-requires : tie.Need-paint-cells-requires Inv-loop2 μ-loop2 Inv-loop μ-loop
 paint-cells-requires c κs = search needs
 
 -- the cells are forty times six colours
-six : (k : tie.After-paint-cells Inv-loop2 μ-loop2 Inv-loop μ-loop) → Sixes (k .paint-cells .last .1 .1 .1 .0) 40
-six k =
-    let a = k .before .before .before .before .args in
-    rw (k .paint-cells .ensures .1) (sixes (now (a .memory)) (a .state .counter) (a .line) (a .state .mode) 40)
+module _ (k : tie.After-paint-cells Inv-loop2 μ-loop2 Inv-loop μ-loop) where
+  abbrev cellsOf : List (List ℕ)
+  cellsOf = k .paint-cells .last .1 .1 .1 .1 .0
+
+  abbrev lineOf : List Cell
+  lineOf = let a = k .before .before .before .before .args in lineCells (now (a .memory)) (a .counter) (a .line) (a .before .mode)
+
+  forty : length cellsOf ≡ columns
+  forty =
+      let a = k .before .before .before .before .args in
+      ap length (k .paint-cells .ensures .1)
+      ∙ length-map lineOf (λ (c : Cell). c .colours)
+      ∙ cells-length (now (a .memory)) (a .counter) (a .line) (a .before .mode) columns
+
+  six : (column : ℕ) → column < columns → Six (getD cellsOf column [])
+  six column h =
+      let a = k .before .before .before .before .args in
+      let all : Each Six cellsOf =
+      rw (k .paint-cells .ensures .1) (line-sixes (now (a .memory)) (a .counter) (a .line) (a .before .mode)) in
+      each-at Six cellsOf all column [] (omega (arith, forty))
 
 loop-holds : tie.Need-loop-holds Inv-loop2 μ-loop2 Inv-loop μ-loop
 unfolding flatten
-loop-holds c = (omega arith, c .before .before .before .before .pre .1 .0, refl)
+loop-holds c = (omega arith, c .before .before .before .before .pre .1 .1, refl)
 
 mul-from : tie.Need-mul-from Inv-loop2 μ-loop2 Inv-loop μ-loop
 mul-from c = omega arith
@@ -55,7 +75,7 @@ mul-from c = omega arith
 loop2-holds : tie.Need-loop2-holds Inv-loop2 μ-loop2 Inv-loop μ-loop
 loop2-holds c =
     let here = c .before .loop in
-    let place : 6 * here .column + 0 ≡ 6 * here .column = omega arith in
+    let place : cellLength * here .column + 0 ≡ cellLength * here .column = omega arith in
     (omega arith, here .inv .1, rw place (simp append-nil (here .inv .2)))
 
 mul-output : tie.Need-mul-output Inv-loop2 μ-loop2 Inv-loop μ-loop
@@ -84,12 +104,12 @@ loop2-again c =
     let here = c .before .before .loop2 in
     let column = c .before .before .before .before .loop .column in
     let done = c .before .before .before .before .before in
-    let cell = getD (done .paint-cells .last .1 .1 .1 .0) column [] in
+    let cell = getD (cellsOf done) column [] in
     let colour = getD cell (here .k) 0 in
-    let place = 6 * column + here .k in
-    let next : 6 * column + (here .k + 1) ≡ place + 1 = omega arith in
+    let place = cellLength * column + here .k in
+    let next : cellLength * column + (here .k + 1) ≡ place + 1 = omega arith in
     let inside : place < length (here .output) = omega arith in
-    let within : here .k < length cell = omega (arith, six done .1 column (omega arith)) in (
+    let within : here .k < length cell = omega (arith, six done column (omega arith)) in (
       omega arith,
       simp length-set (here .inv .1),
       rw next
@@ -107,13 +127,13 @@ loop-again c =
     let here = c .before .loop2 in
     let column = c .before .before .before .loop .column in
     let done = c .before .before .before .before in
-    let cells = done .paint-cells .last .1 .1 .1 .0 in
+    let cells = cellsOf done in
     let cell = getD cells column [] in
-    let next : 6 * (column + 1) ≡ 6 * column + here .k = omega arith in
-    let whole : take (here .k) cell ≡ cell = take-all (here .k) cell (omega (arith, six done .1 column (omega arith))) in (
+    let next : cellLength * (column + 1) ≡ cellLength * column + here .k = omega arith in
+    let whole : take (here .k) cell ≡ cell = take-all (here .k) cell (omega (arith, six done column (omega arith))) in (
       omega arith,
       here .inv .1,
-      rw next (here .inv .2 ∙ ap (λ (l : List ℕ). flatten (take column cells) ++ l) whole ∙ sym (flatten-next cells column (omega (arith, six done .0)))),
+      rw next (here .inv .2 ∙ ap (λ (l : List ℕ). flatten (take column cells) ++ l) whole ∙ sym (flatten-next cells column (omega (arith, forty done)))),
     )
 
 same-length : tie.Need-same-length Inv-loop2 μ-loop2 Inv-loop μ-loop
@@ -124,9 +144,9 @@ unfolding pixels
 returns c =
     let here = c .before .loop in
     let done = c .before .before in
-    let cells = done .paint-cells .last .1 .1 .1 .0 in
-    let full = take-all (6 * here .column) (here .output) (omega arith) in
-    let all = take-all (here .column) cells (omega (arith, six done .0)) in
+    let cells = cellsOf done in
+    let full = take-all (cellLength * here .column) (here .output) (omega arith) in
+    let all = take-all (here .column) cells (omega (arith, forty done)) in
     (done .paint-cells .ensures .0, sym full ∙ here .inv .2 ∙ ap flatten (all ∙ done .paint-cells .ensures .1))
 
 pub fill-line-spec : {M : Type 1} → statement M

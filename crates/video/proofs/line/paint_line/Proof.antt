@@ -1,76 +1,108 @@
--- `video::paint_line` meets its contract: the status is the refusal of its list, and decides between refusal and picture.
+-- `video::paint_line` meets its contract: the status is the refusal of its list, and decides between refusal and line.
 -- Assumes nothing.
-use mathlib.Core.List.{[], _∷_}
-use mathlib.Core.Path.{_≡_, sym, _∙_}
+use Prim.Native.Nat.{ℕ}
+use mathlib.Core.List.{List, [], _∷_}
+use mathlib.Core.Path.{_≡_, sym, ap, _∙_}
+use native.Mathlib.Omega.{arith}
 use lib.ListN.{length}
 use denote.Ref.{now}
 use borrow.Author.Needs.{needs}
 use Rattle.machine.specs.Refusal.{lineCheck}
-use Rattle.machine.proofs.Refusals.{refusal-append}
-use Rattle.video.specs.Answer.{paintingChecks, lineRefusal}
-use Rattle.video.proofs.Accepted.{accepted-line}
-use Rattle.video.proofs.Answers.{line-refused, line-done}
+use Rattle.machine.specs.Sizes.{columns, lineLength}
+use Rattle.machine.proofs.Refusals.{line-passed}
+use Rattle.video.specs.Answer.{lineRefusal, lineAnswer, lineContents}
+use Rattle.video.specs.Cell.{Cell, pixels}
+use Rattle.video.specs.Internal.{paintedLine}
+use Rattle.video.specs.Line.{lineCells}
+use Rattle.video.proofs.Accepted.{Paintable, accepted-painting}
+use Rattle.video.proofs.Answers.{painting-refused, painting-done}
+use Rattle.video.proofs.Lines.{cells-length, mode-after, mode-small, line-uses-screen-bytes}
+use Rattle.video.proofs.Readings.{characters-most}
+use Rattle.video.specs.declared.registers.Registers.{Registers}
 use Rattle.video.proofs.line.paint_line.Statement.{statement}
 use Rattle.video.proofs.line.paint_line.Tie as tie
 
+-- the line's cells, where it is painted
+abbrev cells : tie.Start → List Cell
+cells start = let a = start .args in lineCells (now (a .memory)) (a .state .counter) (a .line) (a .state .mode)
+
 -- the status is the refusal of the whole list
-status : (k : tie.After-first-refusal)
-    → let a = k .before .before .before .before .before .args in
-    k .first-refusal .result ≡ lineRefusal (now (a .memory)) (a .state) (a .line) (now (a .output))
-status k =
-    let a = k .before .before .before .before .before .args in
-    let checks = paintingChecks (length (now (a .memory))) 240 (length (now (a .output))) (a .state) in
-    cc (refusal-append checks (lineCheck (a .line) ∷ []) (tt, (tt, (tt, (tt, tt)))))
-
--- past the test no refusal applies
-accepted : (c : tie.Else1)
-    → let a = c .before .before .before .before .before .before .args in
-    lineRefusal (now (a .memory)) (a .state) (a .line) (now (a .output)) ≡ 0
-accepted c = sym (status (c .before)) ∙ c .if1 .left
-
-painting-refusal-requires : tie.Need-painting-refusal-requires
-painting-refusal-requires c κs = search needs
-
-line-refusal-requires : tie.Need-line-refusal-requires
-line-refusal-requires c κs = search needs
-
-first-refusal-requires : tie.Need-first-refusal-requires
-first-refusal-requires c κs = search needs
-
-refused-requires : tie.Need-refused-requires
-refused-requires c κs = search needs
+status : (k : tie.After-painting-refusal)
+    → let a = k .before .before .before .before .args in
+    k .painting-refusal .result ≡ lineRefusal (now (a .memory)) (a .state) (a .line) (now (a .output))
+status k = cc
 
 returns : tie.Need-returns
+unfolding lineAnswer lineContents
 returns c =
     let k = c .before .before in
-    let a = k .before .before .before .before .before .args in
-    let left = line-refused (now (a .memory)) (a .state) (a .line) (now (a .output)) (k .first-refusal .result) (status k) (c .before .if1 .taken) in
+    let start = k .before .before .before .before in
+    let a = start .args in
+    let left = painting-refused (lineRefusal (now (a .memory)) (a .state) (a .line) (now (a .output))) (a .state) (a .state) (cells start) (now (a .output)) _ (status k) (c .before .if1 .taken) in
     (c .refused .ensures ∙ left .0, left .1)
+
+module _ (e : tie.Else1) where
+  abbrev start : tie.Start
+  start = e .before .before .before .before .before
+
+  -- past the test no refusal applies
+  accepted : let a = start .args in lineRefusal (now (a .memory)) (a .state) (a .line) (now (a .output)) ≡ 0
+  accepted = sym (status (e .before)) ∙ e .if1 .left
+
+  paintable : let a = start .args in Paintable (length (now (a .memory))) lineLength (length (now (a .output))) (a .state) (lineCheck (a .line) ∷ [])
+  paintable =
+      let a = start .args in
+      accepted-painting (length (now (a .memory))) lineLength (length (now (a .output))) (a .state) (lineCheck (a .line) ∷ []) accepted
 
 fill-line-requires : tie.Need-fill-line-requires
 fill-line-requires c κs =
-    let a = c .before .before .before .before .before .before .before .args in
-    let known = accepted-line (now (a .memory)) (a .state) (a .line) (now (a .output)) (accepted (c .before)) in
-    (known .0 .image, (known .0 .lent, known .1))
+    let e = c .before .before .before in
+    let known = paintable e in
+    (known .image, (line-passed 0 (start e .args .line) (known .rest) .holds, known .lent))
+
+-- the line begins in the state's mode
+module _ (f : tie.After-fill-line) where
+  abbrev entry : tie.Start
+  entry = start (f .before .before .before .before)
+
+  carried : f .before .before .at-line-start .result .mode ≡ entry .args .state .mode
+  carried = ap (λ (r : Registers). r .mode) (f .before .before .at-line-start .ensures) ∙ f .before .before .before .wide .ensures
+
+  painted-is : let a = entry .args in f .fill-line .result ≡ paintedLine (now (a .memory)) (a .state .counter) (a .line) (a .state .mode)
+  painted-is = let a = entry .args in f .fill-line .ensures .0 ∙ ap (paintedLine (now (a .memory)) (a .state .counter) (a .line)) carried
+
+answer-requires : tie.Need-answer-requires
+answer-requires c κs =
+    let f = c .before .before .before in
+    let a = entry f .args in
+    let small = mode-small (now (a .memory)) (a .line) (a .state .mode) (paintable (f .before .before .before .before) .within .mode) columns in
+    rw (painted-is f)
+    (small, (omega (arith, line-uses-screen-bytes (now (a .memory)) (a .state .counter) (a .line) (a .state .mode)), omega (arith, characters-most (cells (entry f)), cells-length (now (a .memory)) (a .state .counter) (a .line) (a .state .mode) columns)))
 
 same-length : tie.Need-same-length
 same-length c = search needs
 
 returns-2 : tie.Need-returns-2
+unfolding lineAnswer lineContents
 returns-2 c =
-    let a = c .before .before .before .before .before .before .before .before .before .before .args in
-    let left = line-done (now (a .memory)) (a .state) (a .line) (now (a .output)) (accepted (c .before .before .before .before)) in
-    (c .before .before .fill-line .ensures .0 ∙ left .0, c .before .before .fill-line .ensures .1 ∙ left .1)
+    let f = c .before .before .before .before in
+    let a = entry f .args in
+    let left = painting-done (lineRefusal (now (a .memory)) (a .state) (a .line) (now (a .output))) (a .state) (a .state) (cells (entry f)) (now (a .output)) (accepted (f .before .before .before .before)) in (
+      c .answer .ensures ∙ rw (painted-is f) (rw (← mode-after (now (a .memory)) (a .state .counter) (a .line) (a .state .mode) columns) (left .0)),
+      f .fill-line .ensures .1 ∙ ap (λ (m : ℕ). pixels (lineCells (now (a .memory)) (a .state .counter) (a .line) m)) (carried f) ∙ left .1,
+    )
 
 pub paint-line-spec : {M : Type 1} → statement M
 paint-line-spec =
     tie.close
     (tie.spec
-    painting-refusal-requires
-    line-refusal-requires
-    first-refusal-requires
-    refused-requires
+    (λ c κs. tt)
+    (λ c κs. tt)
+    (λ c κs. tt)
     returns
+    (λ c κs. tt)
+    (λ c κs. tt)
     fill-line-requires
+    answer-requires
     same-length
     returns-2)

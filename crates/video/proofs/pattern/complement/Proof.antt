@@ -1,14 +1,10 @@
 -- `video::pattern::complement` meets its contract: each return is a case of the choice.
 -- Assumes nothing.
 use mathlib.Core.Path.{_≡_, sym, ap, _∙_}
-use Prim.Native.Nat.{ℕ}
 use borrow.Author.Needs.{needs}
 use Rattle.machine.specs.Bits.{bit}
 use Rattle.video.proofs.pattern.complement.Statement.{statement}
 use Rattle.video.proofs.pattern.complement.Tie as tie
-
-wide-requires : tie.Need-wide-requires
-wide-requires c κs = search needs
 
 bit-requires : tie.Need-bit-requires
 bit-requires c κs = search needs
@@ -27,4 +23,4 @@ returns-2 : tie.Need-returns-2
 returns-2 c = simp (sym (tested (c .before)) ∙ c .if1 .left)
 
 pub complement-spec : {M : Type 1} → statement M
-complement-spec = tie.close (tie.spec wide-requires bit-requires sub-result returns returns-2)
+complement-spec = tie.close (tie.spec (λ c κs. tt) bit-requires sub-result returns returns-2)

@@ -1,5 +1,6 @@
 -- `video::pattern::spread` meets its contract: masked copies of a pattern hold its bits, as one test over all bytes shows.
 -- Assumes nothing.
+use native.Mathlib.Omega.{arith}
 use Rattle.video.proofs.Words.{spread-by-copies}
 use borrow.Author.Needs.{needs}
 use Rattle.video.proofs.pattern.spread.Statement.{statement}
@@ -9,7 +10,8 @@ mul-result : tie.Need-mul-result
 mul-result c = search needs
 
 returns : tie.Need-returns
-returns c = cc (spread-by-copies (c .args .pattern) (c .pre))
+returns c = let pattern = c .before .args .pattern in
+    cc (spread-by-copies pattern (omega (arith, c .before .fits .pattern)))
 
 pub spread-spec : {M : Type 1} → statement M
-spread-spec = tie.close (tie.spec mul-result returns)
+spread-spec = tie.close (tie.spec (λ c κs. tt) mul-result returns)

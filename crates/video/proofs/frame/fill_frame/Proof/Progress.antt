@@ -7,70 +7,70 @@ use native.Mathlib.Omega.{arith}
 use lib.ListN.{length, take}
 use lib.Seq.{take-all}
 use borrow.Rule.Slice.PartMut.{putMid}
+use Rattle.machine.specs.Image.{Image}
 use Rattle.machine.specs.Lists.{gather}
+use Rattle.machine.specs.Sizes.{columns, lines, lineLength, frameLength}
 use Rattle.machine.proofs.Lists.{piece-length, piece-done}
 use Rattle.video.specs.Answer.{painted}
-use Rattle.video.specs.Cell.{Cell, pixels, screenAddresses, characterAddresses}
-use Rattle.video.specs.Frame.{modeBefore, firstLines}
+use Rattle.video.specs.Cell.{Cell, pixels, characterAddresses}
+use Rattle.video.specs.Frame.{modeAfterLines, modeBefore, lineOf, firstLines, frameCells}
+use Rattle.video.specs.Internal.{answered, paintedLine}
 use Rattle.video.specs.Line.{lineCells}
-use Rattle.video.proofs.Frames.{lines-next, mode-next, mode-down}
-use Rattle.video.proofs.Lines.{pixels-of}
-use Rattle.video.proofs.Readings.{pixels-append, screens-append, characters-append}
-use Rattle.video.specs.declared.answer.Painted.{Painted}
+use Rattle.video.specs.State.{afterFrame}
+use Rattle.video.proofs.Frames.{lines-next, mode-next, mode-down, frame-uses-screen-bytes}
+use Rattle.video.proofs.Lines.{line-pixels, line-uses-screen-bytes}
+use Rattle.video.proofs.Readings.{pixels-append, characters-append}
+use Rattle.video.specs.declared.line.PaintedLine.{PaintedLine}
+use Rattle.video.specs.declared.registers.Registers.{Registers}
 use Rattle.video.specs.declared.state.State.{State}
 
-module _ (memory : List ℕ) (counter mode : ℕ) where
+module _ (image : Image) (state : State) where
   abbrev first : ℕ → List Cell
-  first = firstLines memory counter mode
+  first = firstLines image (state .counter) (state .mode)
 
-  pub record Reached (frame : List ℕ) (state : State) (screen character line : ℕ) : Type 0 where
-    pub within : line ≤ 224
-    pub size : length frame ≡ 53760
-    pub filled : take (240 * line) frame ≡ pixels (first line)
-    pub path : state ≡ record { mode = modeBefore memory mode line; counter = counter }
-    pub screens : screen ≡ length (screenAddresses (first line))
+  pub record Reached (frame : List ℕ) (registers : Registers) (screen character line : ℕ) : Type 0 where
+    pub within : line ≤ lines
+    pub size : length frame ≡ frameLength
+    pub filled : take (lineLength * line) frame ≡ pixels (first line)
+    pub path : registers .mode ≡ modeBefore image (state .mode) line
+    pub screens : screen ≡ columns * line
     pub characters : character ≡ length (characterAddresses (first line))
 
-  pub none : (frame : List ℕ) → length frame ≡ 53760 → Reached frame (record { mode = mode; counter = counter }) 0 0 0
-  unfolding firstLines gather modeBefore pixels flatten screenAddresses characterAddresses flatMap
-  none frame size = record { within = omega arith; size = size; filled = refl; path = refl; screens = refl; characters = refl }
+  pub none : (frame : List ℕ) (registers : Registers) → length frame ≡ frameLength → registers .mode ≡ state .mode → Reached frame registers 0 0 0
+  unfolding firstLines gather modeAfterLines pixels flatten characterAddresses flatMap
+  none frame registers size mode =
+      record { within = omega arith; size = size; filled = refl; path = mode; screens = refl; characters = refl }
 
-  module _ (frame : List ℕ) (state : State) (screen character line : ℕ) (here : Reached frame state screen character line) where
-    pub next : line < 224 → (part : List ℕ) (answer : Painted)
-        → let cells = lineCells memory (state .counter) line (state .mode) in
-        part ≡ pixels cells → answer ≡ painted (state .counter) (state .mode) cells
-        → Reached (putMid (240 * line) (240 * line + 240 - 240 * line) frame part) (answer .state) (screen + answer .screen)
+  module _ (frame : List ℕ) (registers : Registers) (screen character line : ℕ) (here : Reached frame registers screen character line) where
+    pub next : line < lines → (part : List ℕ) (answer : PaintedLine)
+        → part ≡ pixels (lineCells image (state .counter) line (registers .mode))
+        → answer ≡ paintedLine image (state .counter) line (registers .mode)
+        → Reached (putMid (lineLength * line) (lineLength * line + lineLength - lineLength * line) frame part) (answer .registers) (screen + answer .screen)
         (character + answer .character) (line + 1)
     next more part answer p e =
-        let m = modeBefore memory mode line in
-        let cells = lineCells memory counter line m in
-        let pixels-are : part ≡ pixels cells =
-        p ∙ ap (λ (s : State). pixels (lineCells memory (s .counter) line (s .mode))) (here .path) in
-        let is : answer ≡ painted counter m cells =
-        e ∙ ap (λ (s : State). painted (s .counter) (s .mode) (lineCells memory (s .counter) line (s .mode))) (here .path) in
-        let size : length part ≡ 240 = ap length pixels-are ∙ pixels-of memory counter line m 40 in
-        let fits : 240 * line + 240 ≤ length frame = omega arith in
-        let grown = lines-next memory counter mode line in
+        let mode = modeBefore image (state .mode) line in
+        let cells = lineOf image (state .counter) (state .mode) line in
+        let pixels-are : part ≡ pixels cells = p ∙ ap (λ (m : ℕ). pixels (lineCells image (state .counter) line m)) (here .path) in
+        let is : answer ≡ paintedLine image (state .counter) line mode = e ∙ ap (paintedLine image (state .counter) line) (here .path) in
+        let size : length part ≡ lineLength = ap length pixels-are ∙ line-pixels image (state .counter) line mode in
+        let fits : lineLength * line + lineLength ≤ length frame = omega arith in
+        let grown = lines-next image (state .counter) (state .mode) line in
         record {
           within = omega arith;
-          size = piece-length 240 line frame fits part size ∙ here .size;
-          filled = piece-done 240 line frame fits part size ∙ ap₂ _++_ (here .filled) pixels-are ∙ sym (ap pixels grown ∙ pixels-append (first line) cells);
-          path =
-              ap (λ (a : Painted). a .state) is
-              ∙ ap (λ (n : ℕ). record { mode = n; counter = counter }) (sym (mode-next memory counter mode line));
-          screens =
-              ap₂ (λ (n : ℕ) (a : Painted). n + a .screen) (here .screens) is
-              ∙ sym (ap (λ (l : List Cell). length (screenAddresses l)) grown ∙ screens-append (first line) cells);
+          size = piece-length lineLength line frame fits part size ∙ here .size;
+          filled = piece-done lineLength line frame fits part size ∙ ap₂ _++_ (here .filled) pixels-are ∙ sym (ap pixels grown ∙ pixels-append (first line) cells);
+          path = ap (λ (a : PaintedLine). a .registers .mode) is ∙ sym (mode-next image (state .mode) line);
+          screens = omega (arith, here .screens, ap (λ (a : PaintedLine). a .screen) is, line-uses-screen-bytes image (state .counter) line mode);
           characters =
-              ap₂ (λ (n : ℕ) (a : Painted). n + a .character) (here .characters) is
+              ap₂ (λ (n : ℕ) (a : PaintedLine). n + a .character) (here .characters) is
               ∙ sym (ap (λ (l : List Cell). length (characterAddresses l)) grown ∙ characters-append (first line) cells);
         }
 
-    pub all : 224 ≤ line → (after : ℕ)
-        → (_≡_ {A = Painted}
-        (record { status = 0; state = record { mode = state .mode; counter = after }; screen = screen; character = character })
-        (painted after mode (first 224)))
-        × (frame ≡ pixels (first 224))
-    all end after =
-        let e : line ≡ 224 = omega arith in
-        (cc (e, mode-down memory counter mode line), sym (take-all (240 * line) frame (omega arith)) ∙ here .filled ∙ ap (λ (n : ℕ). pixels (first n)) e)
+    pub all : lines ≤ line
+        → (answered (afterFrame state) (registers .mode) screen character ≡ painted (afterFrame state) (frameCells image state))
+        × (frame ≡ pixels (frameCells image state))
+    all end =
+        let e : line ≡ lines = omega arith in (
+          cc (e, mode-down image (state .counter) (state .mode) line, frame-uses-screen-bytes image state),
+          sym (take-all (lineLength * line) frame (omega arith)) ∙ here .filled ∙ ap (λ (n : ℕ). pixels (first n)) e,
+        )

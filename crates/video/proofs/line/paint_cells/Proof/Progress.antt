@@ -7,65 +7,47 @@ use native.Mathlib.Numerals.{add-one}
 use native.Mathlib.Omega.{arith}
 use lib.ListN.{length, take, set, length-set}
 use lib.Seq.{take-suc-set, take-all}
+use Rattle.machine.specs.Image.{Image}
 use Rattle.machine.specs.Lists.{gather}
-use Rattle.video.specs.Answer.{painted}
-use Rattle.video.specs.Cell.{Cell, cell, screenByte, registersAfter, screenAddresses, characterAddresses}
-use Rattle.video.specs.Painting.{paintedCell, paintOf, sourceOf}
+use Rattle.machine.specs.Sizes.{columns}
+use Rattle.video.specs.Cell.{Cell, cell, characterAddresses}
+use Rattle.video.specs.Internal.{paintedCell, paintedLine}
 use Rattle.video.specs.Line.{registersBefore, cellAt, firstCells, lineCells}
-use Rattle.video.specs.Registers.{lineStart}
-use Rattle.video.proofs.Cells.{again-after}
-use Rattle.video.proofs.Lines.{cells-next, registers-next, mode-after}
-use Rattle.video.proofs.Readings.{screens-one, characters-one}
-use Rattle.video.specs.declared.address.Source.{Source}
-use Rattle.video.specs.declared.answer.Painted.{Painted}
+use Rattle.video.specs.Registers.{lineReset}
+use Rattle.video.proofs.Lines.{cells-next, registers-next, line-uses-screen-bytes}
+use Rattle.video.proofs.Readings.{characters-one}
 use Rattle.video.specs.declared.cell.PaintedCell.{PaintedCell}
-use Rattle.video.specs.declared.pattern.Paint.{Paint}
+use Rattle.video.specs.declared.line.PaintedLine.{PaintedLine}
 use Rattle.video.specs.declared.registers.Registers.{Registers}
 
 abbrev colours : List Cell → List (List ℕ)
 colours = map (λ (c : Cell). c .colours)
 
-module _ (memory : List ℕ) (counter line mode : ℕ) where
+module _ (image : Image) (counter line mode : ℕ) where
   abbrev first : ℕ → List Cell
-  first = firstCells memory counter line mode
+  first = firstCells image counter line mode
 
-  pub record Reached (cells : List (List ℕ)) (registers : Registers) (source : Source) (paint : Paint) (latched screen character column : ℕ) : Type 0 where
-    pub within : column ≤ 40
-    pub size : length cells ≡ 40
+  pub record Reached (cells : List (List ℕ)) (registers : Registers) (screen character column : ℕ) : Type 0 where
+    pub within : column ≤ columns
+    pub size : length cells ≡ columns
     pub filled : take column cells ≡ colours (first column)
-    pub path : registers ≡ registersBefore memory line mode column
-    pub found : source ≡ sourceOf line registers
-    pub colours-known : paint ≡ paintOf registers counter
-    pub again : registersAfter registers latched ≡ registers
-    pub screens : screen ≡ length (screenAddresses (first column))
+    pub path : registers ≡ registersBefore image line mode column
+    pub screens : screen ≡ column
     pub characters : character ≡ length (characterAddresses (first column))
 
-  pub none : (cells : List (List ℕ)) (registers : Registers) (source : Source) (paint : Paint)
-      → length cells ≡ 40 → registers ≡ lineStart mode → source ≡ sourceOf line registers → paint ≡ paintOf registers counter
-      → Reached cells registers source paint 0x40 0 0 0
-  unfolding firstCells gather registersBefore registersAfter screenAddresses characterAddresses flatMap
-  none cells registers source paint size e found known =
-      record {
-        within = omega arith;
-        size = size;
-        filled = refl;
-        path = e;
-        found = found;
-        colours-known = known;
-        again = refl;
-        screens = refl;
-        characters = refl;
-      }
+  pub none : (cells : List (List ℕ)) (registers : Registers) → length cells ≡ columns → registers ≡ lineReset mode → Reached cells registers 0 0 0
+  unfolding firstCells gather registersBefore characterAddresses flatMap
+  none cells registers size reset =
+      record { within = omega arith; size = size; filled = refl; path = reset; screens = refl; characters = refl }
 
-  module _ (cells : List (List ℕ)) (registers : Registers) (source : Source) (paint : Paint) (latched screen character column : ℕ) (here : Reached cells registers source paint latched screen character column) where
-    pub next : column < 40 → (answer : PaintedCell) → answer ≡ paintedCell memory counter latched (cell memory counter line column registers)
-        → Reached (set cells column (answer .colours)) (answer .registers) (answer .source) (answer .paint) (answer .latched) (screen + 1) (character + answer .characters) (column + 1)
-    unfolding cellAt cell screenByte
+  module _ (cells : List (List ℕ)) (registers : Registers) (screen character column : ℕ) (here : Reached cells registers screen character column) where
+    pub next : column < columns → (answer : PaintedCell) → answer ≡ paintedCell (cell image counter line column registers)
+        → Reached (set cells column (answer .colours)) (answer .registers) (screen + 1) (character + answer .character) (column + 1)
+    unfolding cellAt
     next more answer e =
-        let x = cellAt memory counter line mode column in
-        let is : answer ≡ paintedCell memory counter latched x = e ∙ ap (λ (r : Registers). paintedCell memory counter latched (cell memory counter line column r)) (here .path) in
-        let byte = screenByte memory line column (registers .mode) in
-        let grown = cells-next memory counter line mode column in
+        let x = cellAt image counter line mode column in
+        let is : answer ≡ paintedCell x = e ∙ ap (λ (r : Registers). paintedCell (cell image counter line column r)) (here .path) in
+        let grown = cells-next image counter line mode column in
         record {
           within = omega arith;
           size = simp length-set (here .size);
@@ -73,23 +55,18 @@ module _ (memory : List ℕ) (counter line mode : ℕ) where
               rw (add-one column) (take-suc-set cells column (answer .colours) (omega arith))
               ∙ ap₂ (λ (l : List (List ℕ)) (a : PaintedCell). l ++ (a .colours ∷ [])) (here .filled) is
               ∙ simp (grown, map-append);
-          path = ap (λ (a : PaintedCell). a .registers) is ∙ sym (registers-next memory counter line mode column);
-          found = rw is refl;
-          colours-known = rw is refl;
-          again = rw e (again-after registers latched byte (here .again));
-          screens = ap (λ (n : ℕ). n + 1) (here .screens) ∙ sym (ap (λ (l : List Cell). length (screenAddresses l)) grown ∙ screens-one (first column) x);
+          path = ap (λ (a : PaintedCell). a .registers) is ∙ sym (registers-next image counter line mode column);
+          screens = ap (λ (n : ℕ). n + 1) (here .screens);
           characters =
-              ap₂ (λ (n : ℕ) (a : PaintedCell). n + a .characters) (here .characters) is
+              ap₂ (λ (n : ℕ) (a : PaintedCell). n + a .character) (here .characters) is
               ∙ sym (ap (λ (l : List Cell). length (characterAddresses l)) grown ∙ characters-one (first column) x);
         }
 
-    pub all : 40 ≤ column
-        → (_≡_ {A = Painted}
-        (record { status = 0; state = record { mode = registers .mode; counter = counter }; screen = screen; character = character })
-        (painted counter mode (lineCells memory counter line mode)))
-        × (cells ≡ colours (lineCells memory counter line mode))
+    pub all : columns ≤ column
+        → (_≡_ {A = PaintedLine} (record { registers = registers; screen = screen; character = character }) (paintedLine image counter line mode))
+        × (cells ≡ colours (lineCells image counter line mode))
     all end =
-        let e : column ≡ 40 = omega arith in (
-          cc (e, mode-after memory counter line mode column),
+        let e : column ≡ columns = omega arith in (
+          cc (e, line-uses-screen-bytes image counter line mode),
           sym (take-all column cells (omega arith)) ∙ here .filled ∙ ap (λ (n : ℕ). colours (first n)) e,
         )

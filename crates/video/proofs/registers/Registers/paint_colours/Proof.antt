@@ -1,14 +1,16 @@
--- `video::registers::Registers::paint_colours` meets its contract, by what the call ensures.
+-- `video::registers::Registers::paint_colours` meets its contract: the ink that shows is a colour.
 -- Assumes nothing.
-use borrow.Author.Needs.{needs}
+use Rattle.video.proofs.Choice.{shown-most}
 use Rattle.video.proofs.registers.Registers.paint_colours.Statement.{statement}
 use Rattle.video.proofs.registers.Registers.paint_colours.Tie as tie
 
-shown-ink-requires : tie.Need-shown-ink-requires
-shown-ink-requires c κs = search needs
+pixels-requires : tie.Need-pixels-requires
+pixels-requires c κs = let start = c .before in
+    let a = start .args in
+    (rw (c .shown-ink .ensures) (shown-most (a .self) (a .counter) (start .pre .0) (start .pre .1)), start .pre .1)
 
 returns : tie.Need-returns
 returns c = cc
 
 pub paint-colours-spec : {M : Type 1} → statement M
-paint-colours-spec = tie.close (tie.spec shown-ink-requires returns)
+paint-colours-spec = tie.close (tie.spec (λ c κs. tt) pixels-requires returns)

@@ -1,0 +1,14 @@
+-- `video::state::State::after_frame` meets its contract, by what the call ensures.
+-- Assumes nothing.
+use borrow.Author.Needs.{needs}
+use Rattle.video.proofs.state.State.after_frame.Statement.{statement}
+use Rattle.video.proofs.state.State.after_frame.Tie as tie
+
+next-counter-requires : tie.Need-next-counter-requires
+next-counter-requires c κs = search needs
+
+returns : tie.Need-returns
+returns c = cc
+
+pub after-frame-spec : {M : Type 1} → statement M
+after-frame-spec = tie.close (tie.spec next-counter-requires returns)

@@ -1,0 +1,72 @@
+-- What only the contracts of functions inside the crate cite; no promise to others rests on this page.
+-- Assumes nothing.
+use Prim.Native.Nat.{ℕ, zero, suc, _+_, _*_, _/_, _%_}
+use mathlib.Core.Bool.{cond}
+use mathlib.Core.List.{List, [], _∷_, _++_, map, Option·toList}
+use lib.ListN.{length, take, drop}
+use Rattle.machine.specs.Bits.{bit}
+use Rattle.machine.specs.Image.{Image}
+use Rattle.machine.specs.Sizes.{columns}
+use Rattle.video.specs.Address.{textStart, hiresStart}
+use Rattle.video.specs.Cell.{Cell, screenAddresses, characterAddresses}
+use Rattle.video.specs.Line.{registersBefore, lineCells}
+use Rattle.video.specs.Pattern.{patternWeights, patternColours, complemented}
+use Rattle.video.specs.Registers.{shownInk}
+use Rattle.video.specs.State.{withMode}
+use Rattle.video.specs.declared.address.Scanline.{Scanline}
+use Rattle.video.specs.declared.answer.Painted.{Painted}
+use Rattle.video.specs.declared.cell.PaintedCell.{PaintedCell}
+use Rattle.video.specs.declared.line.PaintedLine.{PaintedLine}
+use Rattle.video.specs.declared.registers.Registers.{Registers}
+use Rattle.video.specs.declared.state.State.{State}
+
+-- the record of a line
+abbrev pub scanline : ℕ → Scanline
+scanline line = record { number = line; text = textStart line; hires = hiresStart line }
+
+-- the six pixels of a pattern under a screen byte
+abbrev pub shown : Registers → ℕ → ℕ → ℕ → List ℕ
+shown registers counter byte pattern =
+    map (complemented byte) (patternColours (shownInk registers counter) (registers .paper) pattern)
+
+-- what is handed back of a cell
+abbrev pub paintedCell : Cell → PaintedCell
+paintedCell c =
+    record { registers = c .registers; colours = c .colours; character = length (Option·toList (c .character)) }
+
+-- what is handed back of a line that begins in the given mode
+abbrev pub paintedLine : Image → ℕ → ℕ → ℕ → PaintedLine
+paintedLine image counter line mode =
+    let cells = lineCells image counter line mode in
+    record {
+      registers = registersBefore image line mode columns;
+      screen = length (screenAddresses cells);
+      character = length (characterAddresses cells);
+    }
+
+-- the answer of a painting that left this mode and used so many bytes
+abbrev pub answered : State → ℕ → ℕ → ℕ → Painted
+answered state mode screen character =
+    record { status = 0; state = withMode mode state; screen = screen; character = character }
+
+-- the lowest n bytes of a word, the lowest first
+abbrev pub lowBytes : ℕ → ℕ → List ℕ
+lowBytes zero word = []
+lowBytes (suc n) word = word % 256 ∷ lowBytes n (word / 256)
+
+-- the word of bytes, the lowest first
+abbrev pub wordOf : List ℕ → ℕ
+wordOf [] = 0
+wordOf (byte ∷ bytes) = byte + 256 * wordOf bytes
+
+-- six pixels with the gap after the fourth: a byte of 0
+abbrev pub gapped : List ℕ → List ℕ
+gapped pixels = take 4 pixels ++ (0 ∷ drop 4 pixels)
+
+-- the six bytes of a word about the gap
+abbrev pub pixelBytes : ℕ → List ℕ
+pixelBytes word = let bytes = lowBytes 7 word in take 4 bytes ++ drop 5 bytes
+
+-- the word of a pattern: a byte of 1 for each pixel that is set, the leftmost pixel lowest
+abbrev pub spreadWord : ℕ → ℕ
+spreadWord pattern = wordOf (gapped (map (λ (weight : ℕ). cond (bit weight pattern) 1 0) patternWeights))
