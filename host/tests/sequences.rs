@@ -120,7 +120,7 @@ fn frame_begins_in_the_mode_the_last_one_left() {
         (first.screen, first.character)
     );
     assert_eq!(frame, text);
-    assert_ne!(frame, hires, "from the fresh state it is another picture");
+    assert_ne!(frame, hires, "from the fresh state it has other pixels");
 
     let model = Model::new();
     let expected = model.paint_frame(&memory, first.state, &mut frame);
