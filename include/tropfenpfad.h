@@ -232,9 +232,10 @@ tropfenpfad_painted tropfenpfad_paint_frame(const uint8_t *memory, size_t memory
 /* Bus                                                                       */
 /* ------------------------------------------------------------------------- */
 
-/* The latches to begin with: the kind as given, both latch bytes 0. Refuses
- * nothing: a kind above 2 is taken, and refused by the calls that use it. */
-tropfenpfad_latches tropfenpfad_fresh_latches(uint8_t kind);
+/* The latches to begin with: kind 0 (no controller), both latch bytes 0. The
+ * caller sets the kind of the controller that is fitted; the calls that use
+ * the record refuse a kind above 2. Refuses nothing itself. */
+tropfenpfad_latches tropfenpfad_fresh_latches(void);
 
 /*
  * What answers at an address.

@@ -46,10 +46,10 @@ impl Model {
         }
     }
 
-    /// The kind as given, both latch bytes 0.
-    pub fn fresh_latches(&self, kind: u8) -> Latches {
+    /// Kind 0, both latch bytes 0.
+    pub fn fresh_latches(&self) -> Latches {
         Latches {
-            kind,
+            kind: 0,
             first: 0,
             second: 0,
         }

@@ -6,8 +6,11 @@
 //! tables of right and wrong values, are not the model's; the model is held to them as the library
 //! is.
 
+mod common;
+
 use std::collections::BTreeSet;
 
+use common::fresh_of_kind;
 use tropfenpfad::ffi::{Access, Address, Decoded, Painted, Written};
 use tropfenpfad::images::Xorshift;
 use tropfenpfad::model::Model;
@@ -441,7 +444,7 @@ fn a_memory_length_taken_wrongly() {
     let mut memory = random_bytes();
     let mut output = random_bytes();
     let state = tropfenpfad::fresh_state();
-    let latches = tropfenpfad::fresh_latches(0);
+    let latches = tropfenpfad::fresh_latches();
     let mut tally = Tally::default();
     for length in 0..=memory.len() {
         let lent = &mut memory[..length];
@@ -514,7 +517,7 @@ fn a_kind_taken_wrongly_by_some_call() {
     let memory = &mut memory[..MEMORY_LENGTH];
     let mut tally = Tally::default();
     for kind in 0..=u8::MAX {
-        let latches = tropfenpfad::fresh_latches(kind);
+        let latches = fresh_of_kind(kind);
         let statuses = [
             calls::decode(latches, 0).status,
             calls::read(memory, latches, 0).status,
@@ -529,28 +532,31 @@ fn a_kind_taken_wrongly_by_some_call() {
 
 #[test]
 fn fresh_records_that_are_not_fresh() {
+    let model = Model::new();
+    let state = State {
+        mode: 2,
+        counter: 0,
+    };
+    let latches = Latches {
+        kind: 0,
+        first: 0,
+        second: 0,
+    };
     assert_eq!(
-        tropfenpfad::fresh_state(),
-        State {
-            mode: 2,
-            counter: 0
-        }
+        [tropfenpfad::fresh_state(), model.fresh_state()],
+        [state; 2]
     );
-    for kind in 0..=u8::MAX {
-        let fresh = Latches {
-            kind,
-            first: 0,
-            second: 0,
-        };
-        assert_eq!(tropfenpfad::fresh_latches(kind), fresh);
-    }
-    println!("fresh records: 257 compared");
+    assert_eq!(
+        [tropfenpfad::fresh_latches(), model.fresh_latches()],
+        [latches; 2]
+    );
+    println!("fresh records: 4 compared");
 }
 
 #[test]
 fn a_result_that_hides_the_number() {
     let state = tropfenpfad::fresh_state();
-    let latches = tropfenpfad::fresh_latches(3);
+    let latches = fresh_of_kind(3);
     let mut memory = vec![0; MEMORY_LENGTH];
     let mut frame = vec![0; FRAME_LENGTH];
     let mode = State { mode: 8, ..state };

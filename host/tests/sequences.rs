@@ -159,7 +159,7 @@ fn a_mode_written_over_the_bus_that_comes_late() {
     let mut memory = image_that_ends_in_hires();
     let mut frame = vec![0; FRAME_LENGTH];
     let mut state = tropfenpfad::fresh_state();
-    let mut latches = tropfenpfad::fresh_latches(0);
+    let mut latches = tropfenpfad::fresh_latches();
     let mut modes = Vec::new();
     for byte in [TEXT_50_HZ, HIRES_50_HZ, HIRES_50_HZ, TEXT_50_HZ] {
         let last = LAST_SCREEN_BYTE as u16;
