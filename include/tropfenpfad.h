@@ -67,9 +67,9 @@ extern "C" {
 /* ------------------------------------------------------------------------- */
 
 /*
- * Each function names the refusals that it can give. It tests them in rising
- * order and gives the first that applies, so that a call with two wrong
- * arguments always gives the same number.
+ * Each function lists the refusals that it can give. It tests them in the
+ * order in which it lists them and gives the first that applies, so that a
+ * call with two wrong arguments always gives the same number.
  *
  * A refused call has changed nothing that was lent. In its answer the state or
  * the latches are those that were handed in, and all else but the status is 0.
@@ -221,7 +221,7 @@ tropfenpfad_painted tropfenpfad_paint_line(const uint8_t *memory, size_t memory_
  * Returns the state to hand to the next frame, which is the mode that the last
  * line left and the counter plus one, 0 after 31, and the sums of the lines'
  * counts. Hand that state on: a frame that is painted from the fresh state
- * although the one before it ended in hires is another picture.
+ * although the one before it ended in hires has other pixels.
  * Refuses: 1 memory, 2 output, 3 mode, 4 counter.
  */
 tropfenpfad_painted tropfenpfad_paint_frame(const uint8_t *memory, size_t memory_length,
@@ -232,9 +232,10 @@ tropfenpfad_painted tropfenpfad_paint_frame(const uint8_t *memory, size_t memory
 /* Bus                                                                       */
 /* ------------------------------------------------------------------------- */
 
-/* The latches to begin with: the kind as given, both latch bytes 0. Refuses
- * nothing: a kind above 2 is taken, and refused by the calls that use it. */
-tropfenpfad_latches tropfenpfad_fresh_latches(uint8_t kind);
+/* The latches to begin with: kind 0 (no controller), both latch bytes 0. The
+ * caller sets the kind of the controller that is fitted; the calls that use
+ * the record refuse a kind above 2. Refuses nothing itself. */
+tropfenpfad_latches tropfenpfad_fresh_latches(void);
 
 /*
  * What answers at an address.

@@ -10,9 +10,9 @@ pub fn fresh_state() -> State {
     unsafe { ffi::tropfenpfad_fresh_state() }
 }
 
-pub fn fresh_latches(kind: u8) -> Latches {
+pub fn fresh_latches() -> Latches {
     // SAFETY: no pointer is handed over.
-    unsafe { ffi::tropfenpfad_fresh_latches(kind) }
+    unsafe { ffi::tropfenpfad_fresh_latches() }
 }
 
 pub fn screen_address(line: usize, column: usize, mode: u8) -> Address {

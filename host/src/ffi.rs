@@ -94,7 +94,7 @@ pub struct Written {
 extern "C" {
     pub fn tropfenpfad_fresh_state() -> State;
 
-    pub fn tropfenpfad_fresh_latches(kind: u8) -> Latches;
+    pub fn tropfenpfad_fresh_latches() -> Latches;
 
     pub fn tropfenpfad_screen_address(line: usize, column: usize, mode: u8) -> Address;
 

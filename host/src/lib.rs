@@ -114,10 +114,17 @@ pub fn fresh_state() -> State {
     calls::fresh_state()
 }
 
-/// The latches after power-on: this kind, both bytes 0. A kind above 2 is taken here and refused
-/// by the calls that use it.
-pub fn fresh_latches(kind: u8) -> Latches {
-    calls::fresh_latches(kind)
+/// The latches after power-on: kind 0 (no controller), both bytes 0. The caller sets the kind of
+/// the controller that is fitted; the calls that use it refuse one above 2.
+///
+/// ```
+/// use tropfenpfad::{fresh_latches, Latches, KIND_MICRODISC};
+///
+/// let latches = Latches { kind: KIND_MICRODISC, ..fresh_latches() };
+/// assert_eq!((latches.first, latches.second), (0, 0));
+/// ```
+pub fn fresh_latches() -> Latches {
+    calls::fresh_latches()
 }
 
 /// Where the screen byte of a cell stands. Refuses mode, line, column.

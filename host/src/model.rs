@@ -1,9 +1,10 @@
 //! A second painter, decoder and bus that share no code with the library.
 //!
 //! The shape is another one on purpose: what a screen byte does is looked up in a table, the four
-//! registers are one word, six pixels are six lanes of another, decode goes through a map of
-//! pages, and refusals are bits of which the lowest counts. The answers are the C interface's
-//! records, so that whole answers can be compared, refused ones included.
+//! registers are one word, six pixels are six lanes of another, and decode goes through a map of
+//! pages. Each entry point holds its refusals as a list, of which the first that applies is given.
+//! The answers are the C interface's records, so that whole answers can be compared, refused ones
+//! included.
 
 mod decoder;
 mod painter;
@@ -45,10 +46,10 @@ impl Model {
         }
     }
 
-    /// The kind as given, both latch bytes 0.
-    pub fn fresh_latches(&self, kind: u8) -> Latches {
+    /// Kind 0, both latch bytes 0.
+    pub fn fresh_latches(&self) -> Latches {
         Latches {
-            kind,
+            kind: 0,
             first: 0,
             second: 0,
         }
@@ -56,9 +57,7 @@ impl Model {
 
     /// Where the screen byte of a cell stands.
     pub fn screen_address(&self, line: usize, column: usize, mode: u8) -> Address {
-        let refusals =
-            bit(MODE, mode > 7) | bit(LINE, line >= LINES) | bit(COLUMN, column >= COLUMNS);
-        let status = lowest(refusals);
+        let status = first_of(&[of_mode(mode), of_line(line), of_column(column)]);
         let address = match status {
             0 => painter::line_starts(line)[usize::from(mode >> 2)] + column,
             _ => 0,
@@ -77,12 +76,15 @@ impl Model {
         line: usize,
         output: &mut [u8],
     ) -> Painted {
-        let refusals = of_memory(memory)
-            | bit(OUTPUT, output.len() != LINE_LENGTH)
-            | of_state(state)
-            | bit(LINE, line >= LINES);
-        if refusals != 0 {
-            return refused_painting(refusals, state);
+        let status = first_of(&[
+            of_memory(memory),
+            of_output(output, LINE_LENGTH),
+            of_mode(state.mode),
+            of_counter(state.counter),
+            of_line(line),
+        ]);
+        if status != 0 {
+            return refused_painting(status, state);
         }
         let memory = memory.try_into().expect("the length was tested");
         let output = output.try_into().expect("the length was tested");
@@ -99,10 +101,14 @@ impl Model {
 
     /// Paints one frame.
     pub fn paint_frame(&self, memory: &[u8], state: State, frame: &mut [u8]) -> Painted {
-        let refusals =
-            of_memory(memory) | bit(OUTPUT, frame.len() != FRAME_LENGTH) | of_state(state);
-        if refusals != 0 {
-            return refused_painting(refusals, state);
+        let status = first_of(&[
+            of_memory(memory),
+            of_output(frame, FRAME_LENGTH),
+            of_mode(state.mode),
+            of_counter(state.counter),
+        ]);
+        if status != 0 {
+            return refused_painting(status, state);
         }
         let memory = memory.try_into().expect("the length was tested");
         let mut mode = state.mode;
@@ -126,10 +132,10 @@ impl Model {
 
     /// What answers at an address.
     pub fn decode(&self, latches: Latches, address: u16) -> Decoded {
-        let refusals = of_kind(latches);
-        if refusals != 0 {
+        let status = first_of(&[of_kind(latches)]);
+        if status != 0 {
             return Decoded {
-                status: lowest(refusals),
+                status,
                 target: 0,
                 number: 0,
             };
@@ -144,9 +150,9 @@ impl Model {
 
     /// Reads over the bus.
     pub fn read(&self, memory: &[u8], latches: Latches, address: u16) -> Access {
-        let refusals = of_memory(memory) | of_kind(latches);
-        if refusals != 0 {
-            return refused_access(refusals);
+        let status = first_of(&[of_memory(memory), of_kind(latches)]);
+        if status != 0 {
+            return refused_access(status);
         }
         let (target, number) = self.decoder.decode(latches, address);
         let kept = 0u8.wrapping_sub(decoder::is_ram(target) as u8);
@@ -179,9 +185,9 @@ impl Model {
         address: u16,
         byte: u8,
     ) -> Access {
-        let refusals = of_memory(memory) | of_kind(*latches);
-        if refusals != 0 {
-            return refused_access(refusals);
+        let status = first_of(&[of_memory(memory), of_kind(*latches)]);
+        if status != 0 {
+            return refused_access(status);
         }
         let (target, number) = self.decoder.decode(*latches, address);
         if decoder::is_ram(target) {
@@ -197,51 +203,57 @@ impl Model {
     }
 }
 
-const MEMORY: u8 = 1;
-const OUTPUT: u8 = 2;
-const MODE: u8 = 3;
-const COUNTER: u8 = 4;
-const LINE: u8 = 5;
-const COLUMN: u8 = 6;
-const KIND: u8 = 7;
+/// A refusal's number, and whether it applies.
+type Test = (u8, bool);
 
-/// Refusal n as bit n, set where it applies.
-fn bit(number: u8, applies: bool) -> u8 {
-    u8::from(applies) << number
+/// The number of the first refusal of the list that applies, or 0 where none does.
+fn first_of(tests: &[Test]) -> u8 {
+    tests
+        .iter()
+        .find(|(_, applies)| *applies)
+        .map_or(0, |(number, _)| *number)
 }
 
-/// The number of the lowest bit, which is the refusal to give, or 0 where there is none.
-fn lowest(refusals: u8) -> u8 {
-    match refusals {
-        0 => 0,
-        _ => refusals.trailing_zeros() as u8,
-    }
+fn of_memory(memory: &[u8]) -> Test {
+    (1, memory.len() != MEMORY_LENGTH)
 }
 
-fn of_memory(memory: &[u8]) -> u8 {
-    bit(MEMORY, memory.len() != MEMORY_LENGTH)
+fn of_output(output: &[u8], length: usize) -> Test {
+    (2, output.len() != length)
 }
 
-fn of_state(state: State) -> u8 {
-    bit(MODE, state.mode > 7) | bit(COUNTER, state.counter > 31)
+fn of_mode(mode: u8) -> Test {
+    (3, mode > 7)
 }
 
-fn of_kind(latches: Latches) -> u8 {
-    bit(KIND, latches.kind > 2)
+fn of_counter(counter: u8) -> Test {
+    (4, counter > 31)
 }
 
-fn refused_painting(refusals: u8, state: State) -> Painted {
+fn of_line(line: usize) -> Test {
+    (5, line >= LINES)
+}
+
+fn of_column(column: usize) -> Test {
+    (6, column >= COLUMNS)
+}
+
+fn of_kind(latches: Latches) -> Test {
+    (7, latches.kind > 2)
+}
+
+fn refused_painting(status: u8, state: State) -> Painted {
     Painted {
-        status: lowest(refusals),
+        status,
         state,
         screen: 0,
         character: 0,
     }
 }
 
-fn refused_access(refusals: u8) -> Access {
+fn refused_access(status: u8) -> Access {
     Access {
-        status: lowest(refusals),
+        status,
         target: 0,
         number: 0,
         byte: 0,

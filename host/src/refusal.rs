@@ -3,8 +3,8 @@
 use std::error::Error;
 use std::fmt;
 
-/// Why a call gave no answer. Every call tests what concerns it in the order of these numbers and
-/// gives the first that applies.
+/// Why a call gave no answer. Every call lists the refusals that it can give; it tests them in the
+/// order in which it lists them and gives the first that applies.
 #[derive(Clone, Copy, Debug, PartialEq, Eq, PartialOrd, Ord, Hash)]
 #[repr(u8)]
 pub enum Refusal {
@@ -25,7 +25,7 @@ pub enum Refusal {
 }
 
 impl Refusal {
-    /// Every refusal, in the order in which they are tested.
+    /// Every refusal, in the order of their numbers.
     pub const ALL: [Refusal; 7] = [
         Refusal::Memory,
         Refusal::Output,

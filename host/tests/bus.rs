@@ -3,9 +3,10 @@
 mod common;
 
 use common::bus::{random_latches, Access, Bus, Form};
+use common::fresh_of_kind;
 use tropfenpfad::images::{self, Kind, Xorshift};
 use tropfenpfad::model::Model;
-use tropfenpfad::{calls, fresh_latches, Latches, Target, KIND_JASMIN, KIND_MICRODISC, KIND_NONE};
+use tropfenpfad::{calls, Latches, Target, KIND_JASMIN, KIND_MICRODISC, KIND_NONE};
 
 fn latches(kind: u8, first: u8, second: u8) -> Latches {
     Latches {
@@ -70,7 +71,7 @@ fn a_latch_pair_that_selects_otherwise() {
     }
     for kind in 0..=u8::MAX {
         for address in addresses {
-            compare_decode(&model, fresh_latches(kind), address);
+            compare_decode(&model, fresh_of_kind(kind), address);
             decodes += 1;
         }
     }
@@ -106,7 +107,7 @@ fn a_long_list_that_drifts() {
     let mut generator = Xorshift::new(2);
     let mut bus = Bus::new(
         images::image(Kind::Random, 2),
-        fresh_latches(KIND_MICRODISC),
+        fresh_of_kind(KIND_MICRODISC),
     );
     for index in 1..=3_000_000 {
         bus.access(&model, Access::random(&mut generator));
@@ -179,7 +180,7 @@ fn a_write_that_lands_behind_page_3_or_under_rom() {
         // Fresh latches select no overlay under any kind.
         for address in (0x0300..=0x03FF).chain(0xC000..=0xFFFF) {
             let byte = !untouched[usize::from(address)];
-            let record = fresh_latches(kind);
+            let record = fresh_of_kind(kind);
             let (place, _) = tropfenpfad::write(&mut memory, record, address, byte).unwrap();
             assert!(!matches!(place.target, Target::Ram | Target::OverlayRam));
             accesses += 1;

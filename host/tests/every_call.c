@@ -50,9 +50,9 @@ static void video(void) {
 }
 
 static void bus(void) {
-  tropfenpfad_latches latches = tropfenpfad_fresh_latches(TROPFENPFAD_KIND_JASMIN);
+  tropfenpfad_latches latches = tropfenpfad_fresh_latches();
   latches_left("fresh_latches", latches);
-  latches_left("fresh_latches", tropfenpfad_fresh_latches(200));
+  latches.kind = TROPFENPFAD_KIND_JASMIN;
   tropfenpfad_decoded place = tropfenpfad_decode(latches, 0xC123);
   printf("decode %u %u %u\n", (unsigned)place.status, (unsigned)place.target,
          (unsigned)place.number);

@@ -347,7 +347,7 @@ fn a_refused_write_that_stores() {
 
 #[test]
 fn a_null_pointer_of_length_0_that_is_followed() {
-    let latches = tropfenpfad::fresh_latches(0);
+    let latches = tropfenpfad::fresh_latches();
     let mut record = latches;
     let state = tropfenpfad::fresh_state();
     let image = images::image(Kind::Random, 4);

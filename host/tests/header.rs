@@ -275,9 +275,9 @@ fn write(memory: &mut [u8], record: Latches, address: u16) -> String {
 }
 
 fn bus(memory: &mut [u8]) -> String {
-    let mut record = calls::fresh_latches(KIND_JASMIN);
+    let mut record = calls::fresh_latches();
     let mut text = latches("fresh_latches", record);
-    text += &latches("fresh_latches", calls::fresh_latches(200));
+    record.kind = KIND_JASMIN;
     let place = calls::decode(record, 0xC123);
     text += &format!(
         "decode {} {} {}\n",

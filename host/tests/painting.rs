@@ -59,7 +59,7 @@ impl Bench {
 fn a_frame_painted_otherwise() {
     let mut bench = Bench::new();
     let mut memory = vec![0; MEMORY_LENGTH];
-    let mut pictures = HashSet::new();
+    let mut different = HashSet::new();
     let mut paintings = 0;
     for kind in Kind::ALL {
         for (index, state) in start_states().enumerate() {
@@ -67,17 +67,17 @@ fn a_frame_painted_otherwise() {
                 let seed = index as u64 * SEEDS + seed;
                 images::generate(kind, seed, &mut memory);
                 bench.frame(&format!("{kind:?} image {seed}"), &memory, state);
-                pictures.insert(fingerprint(&bench.frames[0]));
+                different.insert(fingerprint(&bench.frames[0]));
                 paintings += 1;
             }
         }
     }
     println!(
-        "frames: {paintings} paintings compared, {} different pictures, {} modes, counters {COUNTERS:?}",
-        pictures.len(),
+        "frames: {paintings} paintings compared, {} different frames, {} modes, counters {COUNTERS:?}",
+        different.len(),
         MODES
     );
-    assert!(pictures.len() >= 20_000, "the images are too much alike");
+    assert!(different.len() >= 20_000, "the images are too much alike");
 }
 
 #[test]
@@ -159,7 +159,7 @@ fn a_screen_address_given_otherwise() {
 }
 
 #[test]
-fn a_picture_that_hangs_on_bytes_video_never_reads() {
+fn a_frame_that_hangs_on_bytes_video_never_reads() {
     let mut bench = Bench::new();
     let mut generator = Xorshift::new(4);
     let mut paintings = 0;
@@ -167,12 +167,12 @@ fn a_picture_that_hangs_on_bytes_video_never_reads() {
         for (seed, state) in start_states().enumerate() {
             let mut memory = images::image(kind, 4_000_000 + seed as u64);
             let after = bench.frame(&format!("{kind:?} image {seed}"), &memory, state);
-            let picture = bench.frames[0].clone();
+            let before = bench.frames[0].clone();
             generator.fill(&mut memory[..0x9800]);
             generator.fill(&mut memory[0xBFE0..]);
             let again = bench.frame(&format!("{kind:?} image {seed}"), &memory, state);
             assert_eq!(after, again);
-            assert_same_bytes("after a change out of reach", &bench.frames[0], &picture);
+            assert_same_bytes("after a change out of reach", &bench.frames[0], &before);
             paintings += 2;
         }
     }

@@ -1,81 +1,95 @@
 //! Every entry point with every mix of right and wrong inputs: which number is given, and what
-//! comes back with it. The number due is the lowest of those that the inputs earn.
+//! comes back with it.
+//!
+//! The number due is the first that applies of a list that stands here: the entry point's refusals
+//! in the order in which the header lists them, each with whether it applies. These lists, and the
+//! tables of right and wrong values, are not the model's; the model is held to them as the library
+//! is.
 
+mod common;
+
+use std::collections::BTreeSet;
+
+use common::fresh_of_kind;
 use tropfenpfad::ffi::{Access, Address, Decoded, Painted, Written};
 use tropfenpfad::images::Xorshift;
+use tropfenpfad::model::Model;
 use tropfenpfad::{calls, Latches, Refusal, State, FRAME_LENGTH, LINE_LENGTH, MEMORY_LENGTH};
 
-/// A value to hand over and the number that it earns, 0 for a right one.
-type Given<T> = (T, u8);
+/// Values to hand over, right ones and wrong ones.
+struct Values<T: 'static> {
+    right: &'static [T],
+    wrong: &'static [T],
+}
 
-const MEMORIES: [Given<usize>; 8] = [
-    (MEMORY_LENGTH, 0),
-    (0, 1),
-    (1, 1),
-    (LINE_LENGTH, 1),
-    (FRAME_LENGTH, 1),
-    (MEMORY_LENGTH - 1, 1),
-    (MEMORY_LENGTH + 1, 1),
-    (2 * MEMORY_LENGTH, 1),
-];
-const LINE_OUTPUTS: [Given<usize>; 8] = [
-    (LINE_LENGTH, 0),
-    (0, 2),
-    (1, 2),
-    (LINE_LENGTH - 1, 2),
-    (LINE_LENGTH + 1, 2),
-    (2 * LINE_LENGTH, 2),
-    (LINE_LENGTH + 256, 2),
-    (FRAME_LENGTH, 2),
-];
-const FRAME_OUTPUTS: [Given<usize>; 8] = [
-    (FRAME_LENGTH, 0),
-    (0, 2),
-    (1, 2),
-    (LINE_LENGTH, 2),
-    (FRAME_LENGTH - LINE_LENGTH, 2),
-    (FRAME_LENGTH - 1, 2),
-    (FRAME_LENGTH + 1, 2),
-    (MEMORY_LENGTH, 2),
-];
-const MODES: [Given<u8>; 7] = [(0, 0), (2, 0), (7, 0), (8, 3), (12, 3), (128, 3), (255, 3)];
-const COUNTERS: [Given<u8>; 6] = [(0, 0), (31, 0), (32, 4), (33, 4), (128, 4), (255, 4)];
-const LINES: [Given<usize>; 9] = [
-    (0, 0),
-    (199, 0),
-    (223, 0),
-    (224, 5),
-    (225, 5),
-    (256, 5),
-    (0x1_0000, 5),
-    (0x1_0000_0000, 5),
-    (usize::MAX, 5),
-];
-const COLUMNS: [Given<usize>; 8] = [
-    (0, 0),
-    (39, 0),
-    (40, 6),
-    (41, 6),
-    (256, 6),
-    (0x1_0000, 6),
-    (0x1_0000_0000, 6),
-    (usize::MAX, 6),
-];
-const KINDS: [Given<u8>; 7] = [(0, 0), (1, 0), (2, 0), (3, 7), (4, 7), (128, 7), (255, 7)];
+impl<T: Copy> Values<T> {
+    /// Each value, and whether it is wrong.
+    fn each(self) -> impl Iterator<Item = (T, bool)> {
+        let right = self.right.iter().map(|&value| (value, false));
+        right.chain(self.wrong.iter().map(|&value| (value, true)))
+    }
+}
+
+const MEMORIES: Values<usize> = Values {
+    right: &[MEMORY_LENGTH],
+    wrong: &[
+        0,
+        1,
+        LINE_LENGTH,
+        FRAME_LENGTH,
+        MEMORY_LENGTH - 1,
+        MEMORY_LENGTH + 1,
+        2 * MEMORY_LENGTH,
+    ],
+};
+const LINE_OUTPUTS: Values<usize> = Values {
+    right: &[LINE_LENGTH],
+    wrong: &[
+        0,
+        1,
+        LINE_LENGTH - 1,
+        LINE_LENGTH + 1,
+        2 * LINE_LENGTH,
+        LINE_LENGTH + 256,
+        FRAME_LENGTH,
+    ],
+};
+const FRAME_OUTPUTS: Values<usize> = Values {
+    right: &[FRAME_LENGTH],
+    wrong: &[
+        0,
+        1,
+        LINE_LENGTH,
+        FRAME_LENGTH - LINE_LENGTH,
+        FRAME_LENGTH - 1,
+        FRAME_LENGTH + 1,
+        MEMORY_LENGTH,
+    ],
+};
+const MODES: Values<u8> = Values {
+    right: &[0, 2, 7],
+    wrong: &[8, 12, 128, 255],
+};
+const COUNTERS: Values<u8> = Values {
+    right: &[0, 31],
+    wrong: &[32, 33, 128, 255],
+};
+const LINES: Values<usize> = Values {
+    right: &[0, 199, 223],
+    wrong: &[224, 225, 256, 0x1_0000, 0x1_0000_0000, usize::MAX],
+};
+const COLUMNS: Values<usize> = Values {
+    right: &[0, 39],
+    wrong: &[40, 41, 256, 0x1_0000, 0x1_0000_0000, usize::MAX],
+};
+const KINDS: Values<u8> = Values {
+    right: &[0, 1, 2],
+    wrong: &[3, 4, 128, 255],
+};
 const LATCH_BYTES: [u8; 4] = [0x00, 0x01, 0x82, 0xFF];
 const ADDRESSES: [u16; 8] = [
     0x0000, 0x0300, 0x0314, 0x03FA, 0x03FB, 0xBB80, 0xC000, 0xFFFF,
 ];
-
-/// The number due: the first, in rising order, that applies.
-fn due(earned: &[u8]) -> u8 {
-    earned
-        .iter()
-        .copied()
-        .filter(|&number| number > 0)
-        .min()
-        .unwrap_or(0)
-}
 
 /// Random bytes, of the greatest length that is handed over.
 fn random_bytes() -> Vec<u8> {
@@ -84,8 +98,9 @@ fn random_bytes() -> Vec<u8> {
     bytes
 }
 
-fn all_latches() -> impl Iterator<Item = Given<Latches>> {
-    KINDS.into_iter().flat_map(|(kind, earned)| {
+/// Latch records, and whether their kind is wrong.
+fn all_latches() -> impl Iterator<Item = (Latches, bool)> {
+    KINDS.each().flat_map(|(kind, wrong)| {
         LATCH_BYTES.into_iter().flat_map(move |first| {
             LATCH_BYTES.map(move |second| {
                 let latches = Latches {
@@ -93,27 +108,49 @@ fn all_latches() -> impl Iterator<Item = Given<Latches>> {
                     first,
                     second,
                 };
-                (latches, earned)
+                (latches, wrong)
             })
         })
     })
 }
 
-fn all_states() -> impl Iterator<Item = (State, [u8; 2])> {
-    MODES.into_iter().flat_map(|(mode, third)| {
-        COUNTERS.map(|(counter, fourth)| (State { mode, counter }, [third, fourth]))
+/// States, and whether their mode and their counter are wrong.
+fn all_states() -> impl Iterator<Item = (State, [bool; 2])> {
+    MODES.each().flat_map(|(mode, bad_mode)| {
+        COUNTERS
+            .each()
+            .map(move |(counter, bad_counter)| (State { mode, counter }, [bad_mode, bad_counter]))
     })
 }
 
-/// Counts calls and refusals, and says so at the end.
+/// Says which number is due, counts calls and refusals, and tells of them at the end.
 #[derive(Default)]
 struct Tally {
     calls: usize,
     refused: usize,
     numbers: [usize; 8],
+    /// How many refusals the entry point lists.
+    listed: usize,
+    /// Places in that list of two refusals that applied together, and no third one with them.
+    pairs: BTreeSet<(usize, usize)>,
 }
 
 impl Tally {
+    /// The number of the first refusal of an entry point's list that applies, 0 where none does.
+    fn due(&mut self, refusals: &[(u8, bool)]) -> u8 {
+        let mut places = Vec::new();
+        for (place, &(_, applies)) in refusals.iter().enumerate() {
+            if applies {
+                places.push(place);
+            }
+        }
+        if let [first, second] = places[..] {
+            self.pairs.insert((first, second));
+        }
+        self.listed = refusals.len();
+        places.first().map_or(0, |&place| refusals[place].0)
+    }
+
     fn count(&mut self, status: u8) {
         self.calls += 1;
         self.refused += usize::from(status != 0);
@@ -124,11 +161,18 @@ impl Tally {
         statuses.iter().for_each(|&status| self.count(status));
     }
 
-    fn print(&self, entry: &str) {
+    /// Prints what was counted, and fails if some two refusals of the list never applied together,
+    /// since then nothing has shown which of them comes first.
+    fn finish(&self, entry: &str) {
         println!(
-            "{entry}: {} calls, {} with bad inputs; by number {:?}",
-            self.calls, self.refused, self.numbers
+            "{entry}: {} calls, {} with bad inputs; by number {:?}; pairs: {}",
+            self.calls,
+            self.refused,
+            self.numbers,
+            self.pairs.len()
         );
+        let all = self.listed * self.listed.saturating_sub(1) / 2;
+        assert_eq!(self.pairs.len(), all, "{entry}: pairs of bad inputs");
     }
 }
 
@@ -147,20 +191,26 @@ fn check_painting(answer: Painted, number: u8, state: State, what: &str) {
     assert_eq!(answer, refused, "{what}");
 }
 
-#[test]
-fn a_line_refused_wrongly_or_not_left_alone() {
+/// Tries a line painter with every mix of inputs.
+fn refuse_lines(name: &str, paint: impl Fn(&[u8], State, usize, &mut [u8]) -> Painted) {
     let untouched = random_bytes();
     let memory = untouched.clone();
     let mut output = untouched.clone();
     let mut tally = Tally::default();
-    for (length, first) in MEMORIES {
-        for (room, second) in LINE_OUTPUTS {
-            for (state, [third, fourth]) in all_states() {
-                for (line, fifth) in LINES {
-                    let number = due(&[first, second, third, fourth, fifth]);
-                    let answer =
-                        calls::paint_line(&memory[..length], state, line, &mut output[..room]);
-                    let what = format!("{length} bytes, {room} lent, {state:?}, line {line}");
+    for (length, bad_memory) in MEMORIES.each() {
+        for (room, bad_output) in LINE_OUTPUTS.each() {
+            for (state, [bad_mode, bad_counter]) in all_states() {
+                for (line, bad_line) in LINES.each() {
+                    let number = tally.due(&[
+                        (1, bad_memory),
+                        (2, bad_output),
+                        (3, bad_mode),
+                        (4, bad_counter),
+                        (5, bad_line),
+                    ]);
+                    let answer = paint(&memory[..length], state, line, &mut output[..room]);
+                    let what =
+                        format!("{name}: {length} bytes, {room} lent, {state:?}, line {line}");
                     check_painting(answer, number, state, &what);
                     if number == 0 {
                         output[..room].copy_from_slice(&untouched[..room]);
@@ -172,21 +222,26 @@ fn a_line_refused_wrongly_or_not_left_alone() {
         }
     }
     assert_eq!((memory, output), (untouched.clone(), untouched));
-    tally.print("paint_line");
+    tally.finish(name);
 }
 
-#[test]
-fn a_frame_refused_wrongly_or_not_left_alone() {
+/// Tries a frame painter with every mix of inputs.
+fn refuse_frames(name: &str, paint: impl Fn(&[u8], State, &mut [u8]) -> Painted) {
     let untouched = random_bytes();
     let memory = untouched.clone();
     let mut output = untouched.clone();
     let mut tally = Tally::default();
-    for (length, first) in MEMORIES {
-        for (room, second) in FRAME_OUTPUTS {
-            for (state, [third, fourth]) in all_states() {
-                let number = due(&[first, second, third, fourth]);
-                let answer = calls::paint_frame(&memory[..length], state, &mut output[..room]);
-                let what = format!("{length} bytes, {room} lent, {state:?}");
+    for (length, bad_memory) in MEMORIES.each() {
+        for (room, bad_output) in FRAME_OUTPUTS.each() {
+            for (state, [bad_mode, bad_counter]) in all_states() {
+                let number = tally.due(&[
+                    (1, bad_memory),
+                    (2, bad_output),
+                    (3, bad_mode),
+                    (4, bad_counter),
+                ]);
+                let answer = paint(&memory[..length], state, &mut output[..room]);
+                let what = format!("{name}: {length} bytes, {room} lent, {state:?}");
                 check_painting(answer, number, state, &what);
                 if number == 0 {
                     output[..room].copy_from_slice(&untouched[..room]);
@@ -197,18 +252,18 @@ fn a_frame_refused_wrongly_or_not_left_alone() {
         }
     }
     assert_eq!(memory, untouched);
-    tally.print("paint_frame");
+    tally.finish(name);
 }
 
-#[test]
-fn a_screen_address_refused_wrongly() {
+/// Tries a screen address lookup with every mix of inputs.
+fn refuse_addresses(name: &str, look_up: impl Fn(usize, usize, u8) -> Address) {
     let mut tally = Tally::default();
-    for (mode, third) in MODES {
-        for (line, fifth) in LINES {
-            for (column, sixth) in COLUMNS {
-                let number = due(&[third, fifth, sixth]);
-                let answer = calls::screen_address(line, column, mode);
-                let what = format!("line {line}, column {column}, mode {mode}");
+    for (mode, bad_mode) in MODES.each() {
+        for (line, bad_line) in LINES.each() {
+            for (column, bad_column) in COLUMNS.each() {
+                let number = tally.due(&[(3, bad_mode), (5, bad_line), (6, bad_column)]);
+                let answer = look_up(line, column, mode);
+                let what = format!("{name}: line {line}, column {column}, mode {mode}");
                 match number {
                     0 => assert_eq!(answer.status, 0, "{what}"),
                     status => assert_eq!(answer, Address { status, address: 0 }, "{what}"),
@@ -217,77 +272,72 @@ fn a_screen_address_refused_wrongly() {
             }
         }
     }
-    tally.print("screen_address");
+    tally.finish(name);
 }
 
-#[test]
-fn a_decode_refused_wrongly() {
+/// Tries a decode with every mix of inputs.
+fn refuse_decodes(name: &str, decode: impl Fn(Latches, u16) -> Decoded) {
     let mut tally = Tally::default();
-    for (latches, number) in all_latches() {
+    for (latches, bad_kind) in all_latches() {
         for address in ADDRESSES {
-            let answer = calls::decode(latches, address);
+            let number = tally.due(&[(7, bad_kind)]);
+            let answer = decode(latches, address);
             let refused = Decoded {
                 status: number,
                 target: 0,
                 number: 0,
             };
             match number {
-                0 => assert_eq!(answer.status, 0, "{latches:?}"),
-                _ => assert_eq!(answer, refused, "{latches:?}"),
+                0 => assert_eq!(answer.status, 0, "{name}: {latches:?}"),
+                _ => assert_eq!(answer, refused, "{name}: {latches:?}"),
             }
             tally.count(answer.status);
         }
     }
-    tally.print("decode");
+    tally.finish(name);
 }
 
-/// What a read or a write in place gives when it is refused.
-fn refused_access(status: u8) -> Access {
-    Access {
-        status,
-        target: 0,
-        number: 0,
-        byte: 0,
-    }
-}
-
-#[test]
-fn a_read_refused_wrongly() {
+/// Tries a read with every mix of inputs.
+fn refuse_reads(name: &str, read: impl Fn(&[u8], Latches, u16) -> Access) {
     let untouched = random_bytes();
     let memory = untouched.clone();
     let mut tally = Tally::default();
-    for (length, first) in MEMORIES {
-        for (latches, seventh) in all_latches() {
+    for (length, bad_memory) in MEMORIES.each() {
+        for (latches, bad_kind) in all_latches() {
             for address in ADDRESSES {
-                let number = due(&[first, seventh]);
-                let answer = calls::read(&memory[..length], latches, address);
+                let number = tally.due(&[(1, bad_memory), (7, bad_kind)]);
+                let answer = read(&memory[..length], latches, address);
+                let what = format!("{name}: {length} bytes, {latches:?}");
+                let refused = Access {
+                    status: number,
+                    target: 0,
+                    number: 0,
+                    byte: 0,
+                };
                 match number {
-                    0 => assert_eq!(answer.status, 0, "{length} bytes, {latches:?}"),
-                    _ => assert_eq!(
-                        answer,
-                        refused_access(number),
-                        "{length} bytes, {latches:?}"
-                    ),
+                    0 => assert_eq!(answer.status, 0, "{what}"),
+                    _ => assert_eq!(answer, refused, "{what}"),
                 }
                 tally.count(answer.status);
             }
         }
     }
     assert_eq!(memory, untouched);
-    tally.print("read");
+    tally.finish(name);
 }
 
-/// Tries a form of write with every pair of bad inputs.
+/// Tries a form of write with every mix of inputs.
 fn refuse_writes(name: &str, write: impl Fn(&mut [u8], Latches, u16, u8) -> Written) {
     let untouched = random_bytes();
     let mut memory = untouched.clone();
     let mut tally = Tally::default();
-    for (length, first) in MEMORIES {
-        for (latches, seventh) in all_latches() {
+    for (length, bad_memory) in MEMORIES.each() {
+        for (latches, bad_kind) in all_latches() {
             for address in ADDRESSES {
-                let number = due(&[first, seventh]);
+                let number = tally.due(&[(1, bad_memory), (7, bad_kind)]);
                 let byte = !untouched[usize::from(address)];
                 let answer = write(&mut memory[..length], latches, address, byte);
+                let what = format!("{name}: {length} bytes, {latches:?}, {address:04x}");
                 let refused = Written {
                     status: number,
                     target: 0,
@@ -296,21 +346,54 @@ fn refuse_writes(name: &str, write: impl Fn(&mut [u8], Latches, u16, u8) -> Writ
                     latches,
                 };
                 match number {
-                    0 => assert_eq!(answer.status, 0, "{length} bytes, {latches:?}"),
-                    _ => assert_eq!(answer, refused, "{length} bytes, {latches:?}"),
+                    0 => assert_eq!(answer.status, 0, "{what}"),
+                    _ => assert_eq!(answer, refused, "{what}"),
                 }
                 if number == 0 {
                     memory[usize::from(address)] = untouched[usize::from(address)];
                 }
-                assert_eq!(
-                    memory, untouched,
-                    "{length} bytes, {latches:?}, {address:04x}"
-                );
+                assert_eq!(memory, untouched, "{what}");
                 tally.count(answer.status);
             }
         }
     }
-    tally.print(name);
+    tally.finish(name);
+}
+
+/// What a write in place answers and leaves, as one by value would say it.
+fn by_value(answer: Access, latches: Latches) -> Written {
+    Written {
+        status: answer.status,
+        target: answer.target,
+        number: answer.number,
+        byte: answer.byte,
+        latches,
+    }
+}
+
+#[test]
+fn a_line_refused_wrongly_or_not_left_alone() {
+    refuse_lines("paint_line", calls::paint_line);
+}
+
+#[test]
+fn a_frame_refused_wrongly_or_not_left_alone() {
+    refuse_frames("paint_frame", calls::paint_frame);
+}
+
+#[test]
+fn a_screen_address_refused_wrongly() {
+    refuse_addresses("screen_address", calls::screen_address);
+}
+
+#[test]
+fn a_decode_refused_wrongly() {
+    refuse_decodes("decode", calls::decode);
+}
+
+#[test]
+fn a_read_refused_wrongly() {
+    refuse_reads("read", calls::read);
 }
 
 #[test]
@@ -320,17 +403,40 @@ fn a_write_refused_wrongly_or_not_left_alone() {
 
 #[test]
 fn a_write_in_place_refused_wrongly_or_not_left_alone() {
-    refuse_writes("write_in_place", |memory, latches, address, byte| {
-        let mut record = latches;
-        let answer = calls::write_in_place(memory, &mut record, address, byte);
-        Written {
-            status: answer.status,
-            target: answer.target,
-            number: answer.number,
-            byte: answer.byte,
-            latches: record,
-        }
+    refuse_writes("write_in_place", |memory, mut latches, address, byte| {
+        let answer = calls::write_in_place(memory, &mut latches, address, byte);
+        by_value(answer, latches)
     });
+}
+
+#[test]
+fn a_model_that_refuses_otherwise() {
+    let model = Model::new();
+    refuse_lines("model paint_line", |memory, state, line, output| {
+        model.paint_line(memory, state, line, output)
+    });
+    refuse_frames("model paint_frame", |memory, state, frame| {
+        model.paint_frame(memory, state, frame)
+    });
+    refuse_addresses("model screen_address", |line, column, mode| {
+        model.screen_address(line, column, mode)
+    });
+    refuse_decodes("model decode", |latches, address| {
+        model.decode(latches, address)
+    });
+    refuse_reads("model read", |memory, latches, address| {
+        model.read(memory, latches, address)
+    });
+    refuse_writes("model write", |memory, latches, address, byte| {
+        model.write(memory, latches, address, byte)
+    });
+    refuse_writes(
+        "model write_in_place",
+        |memory, mut latches, address, byte| {
+            let answer = model.write_in_place(memory, &mut latches, address, byte);
+            by_value(answer, latches)
+        },
+    );
 }
 
 #[test]
@@ -338,7 +444,7 @@ fn a_memory_length_taken_wrongly() {
     let mut memory = random_bytes();
     let mut output = random_bytes();
     let state = tropfenpfad::fresh_state();
-    let latches = tropfenpfad::fresh_latches(0);
+    let latches = tropfenpfad::fresh_latches();
     let mut tally = Tally::default();
     for length in 0..=memory.len() {
         let lent = &mut memory[..length];
@@ -353,7 +459,7 @@ fn a_memory_length_taken_wrongly() {
         assert_eq!(statuses, [number; 5], "{length} bytes of memory");
         tally.count_all(&statuses);
     }
-    tally.print("every length of memory up to 131,072");
+    tally.finish("every length of memory up to 131,072");
 }
 
 #[test]
@@ -370,7 +476,7 @@ fn an_output_length_taken_wrongly() {
         assert_eq!(frame, 2 * u8::from(room != FRAME_LENGTH), "{room} lent");
         tally.count_all(&[line, frame]);
     }
-    tally.print("every length of output up to 131,072");
+    tally.finish("every length of output up to 131,072");
 }
 
 #[test]
@@ -381,16 +487,16 @@ fn a_state_taken_wrongly() {
     for pair in 0..=u16::MAX {
         let [mode, counter] = pair.to_le_bytes();
         let state = State { mode, counter };
-        let number = due(&[3 * u8::from(mode > 7), 4 * u8::from(counter > 31)]);
+        let number = tally.due(&[(3, mode > 7), (4, counter > 31)]);
         let answer = calls::paint_line(memory, state, 0, &mut output);
         check_painting(answer, number, state, &format!("{state:?}"));
         tally.count(answer.status);
     }
-    tally.print("every mode and counter");
+    tally.finish("every mode and counter");
 }
 
 #[test]
-fn a_line_column_or_kind_taken_wrongly() {
+fn a_line_or_column_taken_wrongly() {
     let memory = &random_bytes()[..MEMORY_LENGTH];
     let mut output = [0; LINE_LENGTH];
     let state = tropfenpfad::fresh_state();
@@ -402,38 +508,55 @@ fn a_line_column_or_kind_taken_wrongly() {
         assert_eq!(column, 6 * u8::from(place > 39), "column {place}");
         tally.count_all(&[line, column]);
     }
+    tally.finish("lines and columns up to 65,536");
+}
+
+#[test]
+fn a_kind_taken_wrongly_by_some_call() {
+    let mut memory = random_bytes();
+    let memory = &mut memory[..MEMORY_LENGTH];
+    let mut tally = Tally::default();
     for kind in 0..=u8::MAX {
-        let status = calls::decode(tropfenpfad::fresh_latches(kind), 0).status;
-        assert_eq!(status, 7 * u8::from(kind > 2), "kind {kind}");
-        tally.count(status);
+        let latches = fresh_of_kind(kind);
+        let statuses = [
+            calls::decode(latches, 0).status,
+            calls::read(memory, latches, 0).status,
+            calls::write(memory, latches, 0, 0).status,
+            calls::write_in_place(memory, &mut latches.clone(), 0, 0).status,
+        ];
+        assert_eq!(statuses, [7 * u8::from(kind > 2); 4], "kind {kind}");
+        tally.count_all(&statuses);
     }
-    tally.print("lines and columns up to 65,536, every kind");
+    tally.finish("every kind");
 }
 
 #[test]
 fn fresh_records_that_are_not_fresh() {
+    let model = Model::new();
+    let state = State {
+        mode: 2,
+        counter: 0,
+    };
+    let latches = Latches {
+        kind: 0,
+        first: 0,
+        second: 0,
+    };
     assert_eq!(
-        tropfenpfad::fresh_state(),
-        State {
-            mode: 2,
-            counter: 0
-        }
+        [tropfenpfad::fresh_state(), model.fresh_state()],
+        [state; 2]
     );
-    for kind in 0..=u8::MAX {
-        let fresh = Latches {
-            kind,
-            first: 0,
-            second: 0,
-        };
-        assert_eq!(tropfenpfad::fresh_latches(kind), fresh);
-    }
-    println!("fresh records: 257 compared");
+    assert_eq!(
+        [tropfenpfad::fresh_latches(), model.fresh_latches()],
+        [latches; 2]
+    );
+    println!("fresh records: 4 compared");
 }
 
 #[test]
 fn a_result_that_hides_the_number() {
     let state = tropfenpfad::fresh_state();
-    let latches = tropfenpfad::fresh_latches(3);
+    let latches = fresh_of_kind(3);
     let mut memory = vec![0; MEMORY_LENGTH];
     let mut frame = vec![0; FRAME_LENGTH];
     let mode = State { mode: 8, ..state };

@@ -120,7 +120,7 @@ fn frame_begins_in_the_mode_the_last_one_left() {
         (first.screen, first.character)
     );
     assert_eq!(frame, text);
-    assert_ne!(frame, hires, "from the fresh state it is another picture");
+    assert_ne!(frame, hires, "from the fresh state it has other pixels");
 
     let model = Model::new();
     let expected = model.paint_frame(&memory, first.state, &mut frame);
@@ -159,7 +159,7 @@ fn a_mode_written_over_the_bus_that_comes_late() {
     let mut memory = image_that_ends_in_hires();
     let mut frame = vec![0; FRAME_LENGTH];
     let mut state = tropfenpfad::fresh_state();
-    let mut latches = tropfenpfad::fresh_latches(0);
+    let mut latches = tropfenpfad::fresh_latches();
     let mut modes = Vec::new();
     for byte in [TEXT_50_HZ, HIRES_50_HZ, HIRES_50_HZ, TEXT_50_HZ] {
         let last = LAST_SCREEN_BYTE as u16;

@@ -1,11 +1,12 @@
-//! What several tests share: start states, and a comparison that says where two buffers part.
+//! What several tests share: start states, fresh latches of a kind, and a comparison that says
+//! where two buffers part.
 
 #![allow(dead_code)]
 
 pub mod bus;
 pub mod pages;
 
-use tropfenpfad::State;
+use tropfenpfad::{Latches, State};
 
 /// Modes are 0 to 7.
 pub const MODES: u8 = 8;
@@ -20,6 +21,14 @@ pub fn start_states() -> impl Iterator<Item = State> {
 /// Every state that is not refused.
 pub fn all_states() -> impl Iterator<Item = State> {
     (0..MODES).flat_map(|mode| (0..32).map(move |counter| State { mode, counter }))
+}
+
+/// Fresh latches of a controller kind, a wrong one too.
+pub fn fresh_of_kind(kind: u8) -> Latches {
+    Latches {
+        kind,
+        ..tropfenpfad::fresh_latches()
+    }
 }
 
 /// Fails with the first place at which two buffers differ.
