@@ -1,8 +1,8 @@
 // Frames of generated images: of four kinds, from every start mode, in both phases of the flash.
 use crate::mixing;
 use crate::report;
+use machine::FRAME_LENGTH;
 use machine::IMAGE_LENGTH;
-use video::FRAME_LENGTH;
 use video::State;
 
 const RANDOM: u8 = 0;

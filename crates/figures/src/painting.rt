@@ -1,8 +1,8 @@
 // The figures of lines and frames that are not proved: the last line, the last count, the wrong lengths of memory.
 use crate::report;
+use machine::FRAME_LENGTH;
 use machine::IMAGE_LENGTH;
-use video::FRAME_LENGTH;
-use video::LINE_LENGTH;
+use machine::LINE_LENGTH;
 use video::State;
 
 pub(crate) fn lines() {

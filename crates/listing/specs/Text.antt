@@ -21,7 +21,7 @@ digit d = 48 + d
 abbrev pub pixelDigit : ℕ → ℕ
 pixelDigit pixel = digit (pixel % 8)
 
--- a line of the picture: a digit for each pixel, and a line feed
+-- a line of the frame: a digit for each pixel, and a line feed
 abbrev pub lineText : List ℕ → List ℕ
 lineText pixels = map pixelDigit pixels ++ lineFeed
 

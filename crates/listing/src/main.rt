@@ -1,19 +1,20 @@
-// Paints standard input, the memory image, from the fresh state and writes the picture, or the refusal.
+// Paints standard input, the memory image, from the fresh state and writes the frame, or the refusal.
 // Reading and writing only: what is written is made by the functions of text.rt.
 mod text;
 
 ghost use mathlib.Core.Path.{_≡_};
 ghost use lib.ListN.{length};
+ghost use Rattle.machine.specs.Sizes.{lineLength, frameLength};
 use libc::STDIN_FILENO;
 use libc::STDOUT_FILENO;
 use machine::DONE;
+use machine::FRAME_LENGTH;
 use machine::IMAGE_LENGTH;
+use machine::LINE_LENGTH;
 use machine::LINES;
 use text::CLOSING_LENGTH;
 use text::LINE_TEXT_LENGTH;
 use text::REFUSAL_LENGTH;
-use video::FRAME_LENGTH;
-use video::LINE_LENGTH;
 use video::Painted;
 
 // One byte more than an image, which tells a longer input from an image.
@@ -35,15 +36,15 @@ fn drop_rest() {
 }
 
 fn write_line(pixels: &[u8])
-    requires { ⌜ length (now pixels) ≡ 240 ⌝ }
+    requires { ⌜ length (now pixels) ≡ lineLength ⌝ }
 {
     let mut text = [0u8; LINE_TEXT_LENGTH];
     text::line_text(pixels, &mut text);
     io::write_all(STDOUT_FILENO, &text);
 }
 
-fn write_picture(frame: &[u8])
-    requires { ⌜ length (now frame) ≡ 53760 ⌝ }
+fn write_frame(frame: &[u8])
+    requires { ⌜ length (now frame) ≡ frameLength ⌝ }
 {
     for line in 0..LINES {
         let from = line * LINE_LENGTH;
@@ -72,7 +73,7 @@ fn main() {
     let mut frame = [0u8; FRAME_LENGTH];
     let answer = video::paint_frame(&image[..size], video::fresh_state(), &mut frame);
     if answer.status == DONE {
-        write_picture(&frame);
+        write_frame(&frame);
         write_closing(answer);
     } else {
         write_refusal(answer.status);

@@ -1,10 +1,10 @@
-// The text of the listing: a line of the picture, the closing line, the line of a refusal.
+// The text of the listing: a line of the frame, the closing line, the line of a refusal.
 ghost use mathlib.Core.Path.{_≡_};
 ghost use Prim.Native.Nat.{_+_, _≤_};
 ghost use lib.ListN.{length, take};
 ghost use Rattle.io.specs.Counts.{Counts};
 ghost use Rattle.listing.specs.Text.{Appended, decimal, field, lineText, closingText, refusedText};
-use video::LINE_LENGTH;
+use machine::LINE_LENGTH;
 use video::Painted;
 
 // A line has a digit for each pixel, and a line feed.

@@ -1,9 +1,9 @@
--- `listing::write_picture` is safe and ends: each line lies within the frame.
+-- `listing::write_frame` is safe and ends: each line lies within the frame.
 -- Assumes nothing.
 use Prim.Native.Nat.{_-_, _≤_}
 use native.Mathlib.Omega.{arith}
-use Rattle.listing.proofs.write_picture.Statement.{statement}
-use Rattle.listing.proofs.write_picture.Tie as tie
+use Rattle.listing.proofs.write_frame.Statement.{statement}
+use Rattle.listing.proofs.write_frame.Tie as tie
 
 abbrev Inv-loop : tie.InvT-loop
 Inv-loop frame line₀ line = line ≤ 224
@@ -44,8 +44,8 @@ loop-again c = omega arith
 returns : tie.Need-returns Inv-loop μ-loop
 returns c = tt
 
-pub write-picture-spec : {M : Type 1} → statement M
-write-picture-spec =
+pub write-frame-spec : {M : Type 1} → statement M
+write-frame-spec =
     tie.close
     (tie.spec
     Inv-loop
