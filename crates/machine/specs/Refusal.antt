@@ -16,10 +16,14 @@ pub record Check : Type 0 where
 abbrev pub given : Check → ℕ → ℕ
 given check later = cond (check .applies) (check .number) later
 
+-- the first of a list that applies, else the status of the checks after the list
+abbrev pub refusalBefore : List Check → ℕ → ℕ
+refusalBefore [] later = later
+refusalBefore (check ∷ checks) later = given check (refusalBefore checks later)
+
 -- the first of a list that applies, 0 where none does (document 01: numbers given instead of an answer)
 abbrev pub refusal : List Check → ℕ
-refusal [] = 0
-refusal (check ∷ checks) = given check (refusal checks)
+refusal checks = refusalBefore checks 0
 
 -- 1: the memory is not 65,536 bytes
 abbrev pub memoryCheck : ℕ → Check

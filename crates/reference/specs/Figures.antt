@@ -7,7 +7,8 @@ use mathlib.Core.Bool.{true, false}
 use mathlib.Core.List.{List, [], _∷_}
 use mathlib.Core.Option.{some}
 use lib.ListN.{replicate}
-use Rattle.video.specs.Address.{isHires, screenAddress}
+use Rattle.machine.specs.Image.{Image}
+use Rattle.video.specs.Address.{isHires, bitmapLines, screenAddress}
 use Rattle.video.specs.Registers.{isAttribute}
 use Rattle.video.specs.Cell.{screenByte}
 use Rattle.video.specs.Line.{registersBefore, cellAt}
@@ -24,29 +25,29 @@ Hires mode = isHires mode ≡ true
 -- any cell of the line that has this code, in text or hires and with this style before it, uses this character byte
 abbrev pub Uses : (ℕ → Type 0) → ℕ → ℕ → ℕ → ℕ → Type 0
 Uses Mode style line code address =
-    (memory : List ℕ) (counter mode column : ℕ)
-    → let before = registersBefore memory line mode column in
-    Mode (before .mode) → before .style ≡ style → screenByte memory line column (before .mode) ≡ code
-    → cellAt memory counter line mode column .character ≡ some address
+    (image : Image) (counter mode column : ℕ)
+    → let before = registersBefore image line mode column in
+    Mode (before .mode) → before .style ≡ style → screenByte image line column (before .mode) ≡ code
+    → cellAt image counter line mode column .character ≡ some address
 
 -- a line that begins with this byte shows these colours in its first cell
 abbrev pub FirstShows : (ℕ → ℕ → Type 0) → ℕ → List ℕ → Type 0
 FirstShows Where byte colours =
-    (memory : List ℕ) (counter line mode : ℕ) → Where line mode → screenByte memory line 0 mode ≡ byte
-    → cellAt memory counter line mode 0 .colours ≡ colours
+    (image : Image) (counter line mode : ℕ) → Where line mode → screenByte image line 0 mode ≡ byte
+    → cellAt image counter line mode 0 .colours ≡ colours
 
 -- any line in any mode; a line that shows a bitmap
 abbrev pub Anywhere : ℕ → ℕ → Type 0
 Anywhere line mode = Unit {0}
 
 abbrev pub InBitmap : ℕ → ℕ → Type 0
-InBitmap line mode = (line < 200) × Hires mode
+InBitmap line mode = (line < bitmapLines) × Hires mode
 
 -- a bitmap line that begins with these two bytes shows this colour six times in its second cell
 abbrev pub SecondShows : ℕ → ℕ → ℕ → ℕ → Type 0
 SecondShows counter first second colour =
-    (memory : List ℕ) (line mode : ℕ) → InBitmap line mode → screenByte memory line 0 mode ≡ first → screenByte memory line 1 mode ≡ second
-    → cellAt memory counter line mode 1 .colours ≡ replicate 6 colour
+    (image : Image) (line mode : ℕ) → InBitmap line mode → screenByte image line 0 mode ≡ first → screenByte image line 1 mode ≡ second
+    → cellAt image counter line mode 1 .colours ≡ replicate 6 colour
 
 pub record Figures : Type 0 where
   pub text-first : (mode : ℕ) → Text mode → screenAddress 0 0 mode ≡ 0xBB80
@@ -66,9 +67,9 @@ pub record Figures : Type 0 where
   pub flash-shown : SecondShows 15 0x0C 0x7F 7
   pub flash-hidden : SecondShows 16 0x0C 0x7F 0
   pub flash-hidden-inverse : SecondShows 16 0x0C 0xFF 7
-  pub mode-change : (memory : List ℕ) (counter mode : ℕ) → Hires (registersBefore memory 0 mode 5 .mode)
-      → screenByte memory 0 5 (registersBefore memory 0 mode 5 .mode) ≡ 0x1A
-      → (cellAt memory counter 0 mode 6 .screen ≡ 0xBB86) × (cellAt memory counter 0 mode 6 .mode ≡ 2)
+  pub mode-change : (image : Image) (counter mode : ℕ) → Hires (registersBefore image 0 mode 5 .mode)
+      → screenByte image 0 5 (registersBefore image 0 mode 5 .mode) ≡ 0x1A
+      → (cellAt image counter 0 mode 6 .screen ≡ 0xBB86) × (cellAt image counter 0 mode 6 .mode ≡ 2)
   pub microdisc-FD : (second : ℕ) → place (record { kind = 1; first = 0xFD; second = second }) 0xC000 ≡ overlayRam 0xC000
   pub microdisc-00 : (second : ℕ) → place (record { kind = 1; first = 0x00; second = second }) 0xC000 ≡ bootEprom 0xC000
   pub microdisc-02 : (second : ℕ) → place (record { kind = 1; first = 0x02; second = second }) 0xC000 ≡ basicRom 0xC000

@@ -2,39 +2,46 @@
 -- of bus accesses that stores at none of them changes it. One statement in three parts, over the definitions that the contracts
 -- of paint_frame, read, write and write_in_place cite.
 -- Assumes nothing.
-use Prim.Native.Nat.{ℕ, _≤_}
+use Prim.Native.Nat.{ℕ}
 use mathlib.Core.Path.{_≡_}
 use mathlib.Core.List.{List}
 use lib.ListN.{length}
+use Rattle.machine.specs.Image.{Image, IsImage}
 use Rattle.machine.specs.Lists.{Each}
-use Rattle.machine.specs.Refusal.{imageLength}
-use Rattle.video.specs.State.{nextCounter}
+use Rattle.machine.specs.Sizes.{frameLength}
+use Rattle.video.specs.State.{Within, afterFrame}
 use Rattle.video.specs.Cell.{pixels, used}
 use Rattle.video.specs.Frame.{frameCells}
-use Rattle.video.specs.Answer.{painted, frameRefusal, frameAnswer, frameContents}
+use Rattle.video.specs.Answer.{painted, frameAnswer, frameContents}
 use Rattle.video.specs.Laws.{Agree, InForce, Placed}
 use Rattle.video.specs.declared.state.State.{State}
+use Rattle.bus.specs.Accesses.{Step, boardAfter, stores}
 use Rattle.bus.specs.declared.latch.Latches.{Latches}
-use Rattle.reference.specs.Accesses.{Step, boardAfter, stores}
+
+-- the program paints two images into two lent frames, whatever these held before: neither painting is refused, and both leave and
+-- answer the same
+pub record PaintSame (first second : Image) (state : State) (lent other : List ℕ) : Type 0 where
+  pub first-done : frameAnswer first state lent .status ≡ 0
+  pub second-done : frameAnswer second state other .status ≡ 0
+  pub contents : frameContents second state other ≡ frameContents first state lent
+  pub answers : frameAnswer second state other ≡ frameAnswer first state lent
 
 -- two images show the same from a start state: the used addresses in painting order, all pixels, the state afterwards and both
--- counts; and so does the program, for any two lent frames, where neither painting is refused
-pub record ShowSame (first second : List ℕ) (state : State) : Type 0 where
+-- counts; and so does the program, for any two lent frames of 53,760 bytes
+pub record ShowSame (first second : Image) (state : State) : Type 0 where
   pub addresses : used (frameCells second state) ≡ used (frameCells first state)
-  pub picture : pixels (frameCells second state) ≡ pixels (frameCells first state)
-  pub answer : painted (nextCounter (state .counter)) (state .mode) (frameCells second state)
-      ≡ painted (nextCounter (state .counter)) (state .mode) (frameCells first state)
-  pub program : (lent other : List ℕ) → frameRefusal first state lent ≡ 0 → frameRefusal second state other ≡ 0
-      → (frameContents second state other ≡ frameContents first state lent) × (frameAnswer second state other ≡ frameAnswer first state lent)
+  pub shown : pixels (frameCells second state) ≡ pixels (frameCells first state)
+  pub answer : painted (afterFrame state) (frameCells second state) ≡ painted (afterFrame state) (frameCells first state)
+  pub program : (lent other : List ℕ) → length lent ≡ frameLength → length other ≡ frameLength → PaintSame first second state lent other
 
 -- no address is in both lists
 abbrev pub Apart : List ℕ → List ℕ → Type 0
 Apart xs ys = Each (λ (x : ℕ). Each (λ (y : ℕ). x ≡ y → ⊥) ys) xs
 
 -- the three parts, for an image and a start state
-pub record Noninterference (first : List ℕ) (state : State) : Type 0 where
+pub record Noninterference (first : Image) (state : State) : Type 0 where
   -- an image that agrees at every used address shows the same
-  pub images : (second : List ℕ) → length second ≡ imageLength → Agree first second (used (frameCells first state)) → ShowSame first second state
+  pub images : (second : Image) → IsImage second → Agree first second (used (frameCells first state)) → ShowSame first second state
   -- every cell uses addresses in the regions of its line and the mode in force there
   pub regions : InForce (state .mode) (frameCells first state) × Each Placed (frameCells first state)
   -- a list of accesses that stores at no used address leaves a memory that shows the same
@@ -43,5 +50,4 @@ pub record Noninterference (first : List ℕ) (state : State) : Type 0 where
 
 -- for every image of 65,536 bytes and every start state within its limits
 abbrev pub NoninterferenceHolds : Type 0
-NoninterferenceHolds =
-    (first : List ℕ) (state : State) → length first ≡ imageLength → state .mode ≤ 7 → state .counter ≤ 31 → Noninterference first state
+NoninterferenceHolds = (first : Image) (state : State) → IsImage first → Within state → Noninterference first state

@@ -49,10 +49,10 @@ pub extern "C" fn tropfenpfad_paint_frame(memory: &[u8], state: State, frame: &m
 }
 
 #[no_mangle]
-pub extern "C" fn tropfenpfad_fresh_latches(kind: u8) -> Latches
-    ensures { λ r. ⌜ r ≡ freshLatches kind ⌝ }
+pub extern "C" fn tropfenpfad_fresh_latches() -> Latches
+    ensures { λ r. ⌜ r ≡ freshLatches ⌝ }
 {
-    bus::fresh_latches(kind)
+    bus::fresh_latches()
 }
 
 #[no_mangle]

@@ -6,7 +6,7 @@ use mathlib.Core.Path.{_≡_}
 use lib.ListN.{length}
 use borrow.Author.Tests.{eq-eqb, le-ltb}
 use Rattle.machine.specs.Image.{Image, IsImage, imageLength}
-use Rattle.machine.specs.Refusal.{Check, refusal}
+use Rattle.machine.specs.Refusal.{refusalBefore}
 use Rattle.machine.specs.Sizes.{columns, lines, frameLength, lastMode, lastCount}
 use Rattle.machine.proofs.Refusals.{memory-passed, output-passed, mode-passed, counter-passed, line-passed, column-passed}
 use Rattle.video.specs.Answer.{paintingChecks, addressRefusal, frameRefusal}
@@ -19,15 +19,15 @@ accepted-address line column mode done =
     let past-line = line-passed _ line (past-mode .rest) in
     (past-line .holds, column-passed _ column (past-line .rest) .holds)
 
--- an accepted painting: both lengths are right, the state is within its limits, and no later check applies
-pub record Paintable (memory wanted output : ℕ) (state : State) (later : List Check) : Type 0 where
+-- an accepted painting: both lengths are right, the state is within its limits, and no later refusal is given
+pub record Paintable (memory wanted output : ℕ) (state : State) (later : ℕ) : Type 0 where
   pub image : memory ≡ imageLength
   pub lent : output ≡ wanted
   pub within : Within state
-  pub rest : refusal later ≡ 0
+  pub rest : later ≡ 0
 
-pub accepted-painting : (memory wanted output : ℕ) (state : State) (later : List Check)
-    → refusal (paintingChecks memory wanted output state later) ≡ 0 → Paintable memory wanted output state later
+pub accepted-painting : (memory wanted output : ℕ) (state : State) (later : ℕ)
+    → refusalBefore (paintingChecks memory wanted output state) later ≡ 0 → Paintable memory wanted output state later
 accepted-painting memory wanted output state later done =
     let image = memory-passed _ memory done in
     let lent = output-passed _ wanted output (image .rest) in

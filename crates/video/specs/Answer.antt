@@ -1,7 +1,7 @@
 -- What the entry points answer, and what they leave in the memory that is lent to them, for every input.
 -- Assumes nothing.
 use Prim.Native.Nat.{ℕ}
-use mathlib.Core.List.{List, [], _∷_}
+use mathlib.Core.List.{List, [], _∷_, _++_}
 use lib.ListN.{length}
 use Rattle.machine.specs.Refusal.{Check, refusal, ifDone, memoryCheck, outputCheck, modeCheck, counterCheck, lineCheck, columnCheck}
 use Rattle.machine.specs.Sizes.{lineLength, frameLength}
@@ -28,10 +28,10 @@ painted state cells =
 abbrev pub unpainted : ℕ → State → Painted
 unpainted number state = record { status = number; state = state; screen = 0; character = 0 }
 
--- the refusals of a painting, in order: the lengths of the memory and of what is to be filled, then the state; others may follow
-abbrev pub paintingChecks : ℕ → ℕ → ℕ → State → List Check → List Check
-paintingChecks memory wanted output state later =
-    memoryCheck memory ∷ outputCheck wanted output ∷ modeCheck (state .mode) ∷ counterCheck (state .counter) ∷ later
+-- the refusals of a painting, in order: the lengths of the memory and of what is to be filled, then the state
+abbrev pub paintingChecks : ℕ → ℕ → ℕ → State → List Check
+paintingChecks memory wanted output state =
+    memoryCheck memory ∷ outputCheck wanted output ∷ modeCheck (state .mode) ∷ counterCheck (state .counter) ∷ []
 
 -- by the status of a painting: what it answers, from the state handed in and the one that it leaves but for the mode
 abbrev pub paintedBy : ℕ → State → State → List Cell → Painted
@@ -43,7 +43,7 @@ filledBy number cells lent = ifDone number (pixels cells) lent
 
 -- a frame: refusals 1, 2, 3, 4
 abbrev pub frameRefusal : List ℕ → State → List ℕ → ℕ
-frameRefusal memory state frame = refusal (paintingChecks (length memory) frameLength (length frame) state [])
+frameRefusal memory state frame = refusal (paintingChecks (length memory) frameLength (length frame) state)
 
 unfoldable pub frameAnswer : List ℕ → State → List ℕ → Painted
 frameAnswer memory state frame = paintedBy (frameRefusal memory state frame) state (afterFrame state) (frameCells memory state)
@@ -54,7 +54,7 @@ frameContents memory state frame = filledBy (frameRefusal memory state frame) (f
 -- a line: refusals 1, 2, 3, 4, 5; a single line does not move the counter
 abbrev pub lineRefusal : List ℕ → State → ℕ → List ℕ → ℕ
 lineRefusal memory state line output =
-    refusal (paintingChecks (length memory) lineLength (length output) state (lineCheck line ∷ []))
+    refusal (paintingChecks (length memory) lineLength (length output) state ++ (lineCheck line ∷ []))
 
 unfoldable pub lineAnswer : List ℕ → State → ℕ → List ℕ → Painted
 lineAnswer memory state line output =

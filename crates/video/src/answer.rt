@@ -1,9 +1,9 @@
 // What a painting answers.
 ghost use mathlib.Core.Path.{_≡_};
 ghost use Prim.Native.Nat.{_≤_, _<_, _^_};
-ghost use Rattle.machine.specs.Refusal.{given, memoryCheck, outputCheck, modeCheck, counterCheck};
+ghost use Rattle.machine.specs.Refusal.{refusalBefore};
 ghost use Rattle.machine.specs.Sizes.{lastMode};
-ghost use Rattle.video.specs.Answer.{unpainted};
+ghost use Rattle.video.specs.Answer.{paintingChecks, unpainted};
 ghost use Rattle.video.specs.Internal.{answered};
 use crate::state::State;
 use machine::DONE;
@@ -30,7 +30,7 @@ pub(crate) fn painting_refusal(
     state: State,
     later: u8,
 ) -> u8
-    ensures { λ r. ⌜ r ≡ given (memoryCheck memory) (given (outputCheck wanted output) (given (modeCheck (state .mode)) (given (counterCheck (state .counter)) later))) ⌝ }
+    ensures { λ r. ⌜ r ≡ refusalBefore (paintingChecks memory wanted output state) later ⌝ }
 {
     let wrong_state = mode_refusal(state.mode, counter_refusal(state.counter, later));
     memory_refusal(memory, output_refusal(wanted, output, wrong_state))

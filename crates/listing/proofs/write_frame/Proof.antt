@@ -2,14 +2,15 @@
 -- Assumes nothing.
 use Prim.Native.Nat.{_-_, _≤_}
 use native.Mathlib.Omega.{arith}
+use Rattle.machine.specs.Sizes.{lines}
 use Rattle.listing.proofs.write_frame.Statement.{statement}
 use Rattle.listing.proofs.write_frame.Tie as tie
 
 abbrev Inv-loop : tie.InvT-loop
-Inv-loop frame line₀ line = line ≤ 224
+Inv-loop frame line₀ line = line ≤ lines
 
 abbrev μ-loop : tie.MeasureT-loop
-μ-loop frame line₀ line = 224 - line
+μ-loop frame line₀ line = lines - line
 
 loop-holds : tie.Need-loop-holds Inv-loop μ-loop
 loop-holds c = omega arith

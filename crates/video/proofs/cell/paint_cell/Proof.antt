@@ -13,9 +13,6 @@ use Rattle.video.proofs.Cells.{Coloured, latched-coloured, patternAddre
 use Rattle.video.proofs.cell.paint_cell.Statement.{statement}
 use Rattle.video.proofs.cell.paint_cell.Tie as tie
 
-screen-address-requires : tie.Need-screen-address-requires
-screen-address-requires c κs = search needs
-
 -- the screen byte is read below C000
 screen-low : (k : tie.After-screen-address) → k .screen-address .result < 0xC000
 screen-low k =
@@ -44,8 +41,9 @@ paint-colours-requires : tie.Need-paint-colours-requires
 paint-colours-requires c κs =
     let k = c .before .before .before in
     let start = k .before .before .before in
-    let after = latched-coloured (start .args .before) (byte k) (coloured start) in
-    rw (c .latch-attribute .ensures) (after .ink, after .paper)
+    let after : Coloured (c .latch-attribute .result) =
+    rw (c .latch-attribute .ensures) (latched-coloured (start .args .before) (byte k) (coloured start)) in
+    omega (arith, after .ink, after .paper, start .pre .1 .1 .1)
 
 returns : tie.Need-returns
 returns c =
@@ -71,9 +69,6 @@ shared-slice-read-pattern c =
     let low = characters-below (a .line .number) (a .before .mode) (a .before .style) (byte k % 128) (omega arith) in
     omega (arith, screen-low (k .before), c .before .before .character-address .ensures, low, start .pre .0)
 
-paint-colours-requires-2 : tie.Need-paint-colours-requires-2
-paint-colours-requires-2 c κs = search needs
-
 returns-2 : tie.Need-returns-2
 returns-2 c =
     let d = c .before .before .before in
@@ -87,7 +82,7 @@ pub paint-cell-spec : {M : Type 1} → statement M
 paint-cell-spec =
     tie.close
     (tie.spec
-    screen-address-requires
+    (λ c κs. search needs)
     shared-slice-read-byte
     (λ c κs. tt)
     (λ c κs. tt)
@@ -97,6 +92,6 @@ paint-cell-spec =
     (λ c κs. tt)
     (λ c κs. tt)
     shared-slice-read-pattern
-    paint-colours-requires-2
+    (λ c κs. search needs)
     (λ c κs. tt)
     returns-2)

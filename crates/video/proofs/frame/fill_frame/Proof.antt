@@ -28,21 +28,6 @@ loop-holds c =
     none (now (start .args .memory)) (start .args .state) (now (start .args .frame)) (c .at-line-start .result) (start .pre .1 .0)
     (ap (λ (r : Registers). r .mode) (c .at-line-start .ensures) ∙ c .before .wide .ensures)
 
-mul-from : tie.Need-mul-from Inv-loop μ-loop
-mul-from c = omega arith
-
-add-fill-line : tie.Need-add-fill-line Inv-loop μ-loop
-add-fill-line c = omega arith
-
-sub-fill-line : tie.Need-sub-fill-line Inv-loop μ-loop
-sub-fill-line c = omega arith
-
-part-fill-line-start : tie.Need-part-fill-line-start Inv-loop μ-loop
-part-fill-line-start c = omega arith
-
-part-fill-line-end : tie.Need-part-fill-line-end Inv-loop μ-loop
-part-fill-line-end c = omega arith
-
 fill-line-requires : tie.Need-fill-line-requires Inv-loop μ-loop
 fill-line-requires c κs =
     let here = c .before .before .loop in
@@ -72,12 +57,6 @@ add-character c =
     let a = at .before .before .before .before .before .args in
     omega (arith, loop-again c .characters, characters-down (now (a .memory)) (a .state .counter) (a .state .mode) (at .loop .line + 1))
 
-add-line : tie.Need-add-line Inv-loop μ-loop
-add-line c = omega arith
-
-loop-less : tie.Need-loop-less Inv-loop μ-loop
-loop-less c = omega arith
-
 after-frame-requires : tie.Need-after-frame-requires Inv-loop μ-loop
 after-frame-requires c κs = c .before .before .before .before .before .before .pre .1 .1 .counter
 
@@ -90,9 +69,6 @@ answer-requires c κs =
       rw (here .inv .path) mode,
       omega (arith, here .inv .characters, characters-down (now (a .memory)) (a .state .counter) (a .state .mode) (here .line)),
     )
-
-same-length : tie.Need-same-length Inv-loop μ-loop
-same-length c = omega arith
 
 returns : tie.Need-returns Inv-loop μ-loop
 returns c =
@@ -108,18 +84,18 @@ fill-frame-spec =
     (λ c κs. tt)
     (λ c κs. tt)
     loop-holds
-    mul-from
-    add-fill-line
-    sub-fill-line
-    part-fill-line-start
-    part-fill-line-end
+    (λ c. omega arith)
+    (λ c. omega arith)
+    (λ c. omega arith)
+    (λ c. omega arith)
+    (λ c. omega arith)
     fill-line-requires
     add-screen
     add-character
-    add-line
-    loop-less
+    (λ c. omega arith)
+    (λ c. omega arith)
     loop-again
     after-frame-requires
     answer-requires
-    same-length
+    (λ c. omega arith)
     returns)

@@ -1,6 +1,5 @@
 -- `video::paint_frame` meets its contract: the status is the refusal of its list, and decides between refusal and frame.
 -- Assumes nothing.
-use mathlib.Core.List.{[]}
 use mathlib.Core.Path.{_≡_, sym, _∙_}
 use lib.ListN.{length}
 use denote.Ref.{now}
@@ -30,11 +29,8 @@ returns c =
 fill-frame-requires : tie.Need-fill-frame-requires
 fill-frame-requires c κs =
     let a = c .before .before .before .before .before .args in
-    let known = accepted-painting (length (now (a .memory))) frameLength (length (now (a .frame))) (a .state) [] (accepted (c .before)) in
+    let known = accepted-painting (length (now (a .memory))) frameLength (length (now (a .frame))) (a .state) 0 (accepted (c .before)) in
     (known .image, (known .lent, known .within))
-
-same-length : tie.Need-same-length
-same-length c = search needs
 
 returns-2 : tie.Need-returns-2
 unfolding frameAnswer frameContents
@@ -52,5 +48,5 @@ paint-frame-spec =
     (λ c κs. tt)
     returns
     fill-frame-requires
-    same-length
+    (λ c. search needs)
     returns-2)

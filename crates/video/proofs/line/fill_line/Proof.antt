@@ -40,9 +40,6 @@ Inv-loop memory counter line output₀ cells painted column₀ output column =
 abbrev μ-loop : tie.MeasureT-loop
 μ-loop memory counter line output₀ cells painted column₀ output column = columns - column
 
-paint-cells-requires : tie.Need-paint-cells-requires Inv-loop2 μ-loop2 Inv-loop μ-loop
-paint-cells-requires c κs = search needs
-
 -- the cells are forty times six colours
 module _ (k : tie.After-paint-cells Inv-loop2 μ-loop2 Inv-loop μ-loop) where
   abbrev cellsOf : List (List ℕ)
@@ -69,35 +66,11 @@ loop-holds : tie.Need-loop-holds Inv-loop2 μ-loop2 Inv-loop μ-loop
 unfolding flatten
 loop-holds c = (omega arith, c .before .before .before .before .pre .1 .1, refl)
 
-mul-from : tie.Need-mul-from Inv-loop2 μ-loop2 Inv-loop μ-loop
-mul-from c = omega arith
-
 loop2-holds : tie.Need-loop2-holds Inv-loop2 μ-loop2 Inv-loop μ-loop
 loop2-holds c =
     let here = c .before .loop in
     let place : cellLength * here .column + 0 ≡ cellLength * here .column = omega arith in
     (omega arith, here .inv .1, rw place (simp append-nil (here .inv .2)))
-
-mul-output : tie.Need-mul-output Inv-loop2 μ-loop2 Inv-loop μ-loop
-mul-output c = omega arith
-
-index-1-output : tie.Need-index-1-output Inv-loop2 μ-loop2 Inv-loop μ-loop
-index-1-output c = omega arith
-
-index-2-output : tie.Need-index-2-output Inv-loop2 μ-loop2 Inv-loop μ-loop
-index-2-output c = omega arith
-
-add-output : tie.Need-add-output Inv-loop2 μ-loop2 Inv-loop μ-loop
-add-output c = omega arith
-
-slice-write-output : tie.Need-slice-write-output Inv-loop2 μ-loop2 Inv-loop μ-loop
-slice-write-output c = omega arith
-
-add-k : tie.Need-add-k Inv-loop2 μ-loop2 Inv-loop μ-loop
-add-k c = omega arith
-
-loop2-less : tie.Need-loop2-less Inv-loop2 μ-loop2 Inv-loop μ-loop
-loop2-less c = omega arith
 
 loop2-again : tie.Need-loop2-again Inv-loop2 μ-loop2 Inv-loop μ-loop
 loop2-again c =
@@ -116,12 +89,6 @@ loop2-again c =
           (simp (add-one, take-suc-set (here .output) place colour inside, take-suc cell (here .k) 0 within, here .inv .2, append-assoc)),
     )
 
-add-column : tie.Need-add-column Inv-loop2 μ-loop2 Inv-loop μ-loop
-add-column c = omega arith
-
-loop-less : tie.Need-loop-less Inv-loop2 μ-loop2 Inv-loop μ-loop
-loop-less c = omega arith
-
 loop-again : tie.Need-loop-again Inv-loop2 μ-loop2 Inv-loop μ-loop
 loop-again c =
     let here = c .before .loop2 in
@@ -135,9 +102,6 @@ loop-again c =
       here .inv .1,
       rw next (here .inv .2 ∙ ap (λ (l : List ℕ). flatten (take column cells) ++ l) whole ∙ sym (flatten-next cells column (omega (arith, forty done)))),
     )
-
-same-length : tie.Need-same-length Inv-loop2 μ-loop2 Inv-loop μ-loop
-same-length c = omega arith
 
 returns : tie.Need-returns Inv-loop2 μ-loop2 Inv-loop μ-loop
 unfolding pixels
@@ -157,20 +121,20 @@ fill-line-spec =
     μ-loop2
     Inv-loop
     μ-loop
-    paint-cells-requires
+    (λ c κs. search needs)
     loop-holds
-    mul-from
+    (λ c. omega arith)
     loop2-holds
-    mul-output
-    index-1-output
-    index-2-output
-    add-output
-    slice-write-output
-    add-k
-    loop2-less
+    (λ c. omega arith)
+    (λ c. omega arith)
+    (λ c. omega arith)
+    (λ c. omega arith)
+    (λ c. omega arith)
+    (λ c. omega arith)
+    (λ c. omega arith)
     loop2-again
-    add-column
-    loop-less
+    (λ c. omega arith)
+    (λ c. omega arith)
     loop-again
-    same-length
+    (λ c. omega arith)
     returns)

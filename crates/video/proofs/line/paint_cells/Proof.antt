@@ -43,21 +43,6 @@ paint-cell-requires c κs =
     rw (reset .before .new .ensures)
     (start .pre .0, ((start .pre .1 .0, omega arith), (refl, rw (c .before .loop .inv .path) (known .ink, known .paper))))
 
-mul-colours : tie.Need-mul-colours Inv-loop μ-loop
-mul-colours c = omega arith
-
-element-set-from-colours : tie.Need-element-set-from-colours Inv-loop μ-loop
-element-set-from-colours c = omega arith
-
-add-screen : tie.Need-add-screen Inv-loop μ-loop
-add-screen c = omega arith
-
-add-column : tie.Need-add-column Inv-loop μ-loop
-add-column c = omega arith
-
-loop-less : tie.Need-loop-less Inv-loop μ-loop
-loop-less c = omega arith
-
 loop-again : tie.Need-loop-again Inv-loop μ-loop
 loop-again c =
     let here = c .before .before .before .before .before .loop in
@@ -93,11 +78,11 @@ paint-cells-spec =
     (λ c κs. tt)
     loop-holds
     paint-cell-requires
-    mul-colours
-    element-set-from-colours
-    add-screen
+    (λ c. omega arith)
+    (λ c. omega arith)
+    (λ c. omega arith)
     add-character
-    add-column
-    loop-less
+    (λ c. omega arith)
+    (λ c. omega arith)
     loop-again
     returns)

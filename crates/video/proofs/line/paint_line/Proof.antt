@@ -1,13 +1,13 @@
 -- `video::paint_line` meets its contract: the status is the refusal of its list, and decides between refusal and line.
 -- Assumes nothing.
 use Prim.Native.Nat.{ℕ}
-use mathlib.Core.List.{List, [], _∷_}
+use mathlib.Core.List.{List}
 use mathlib.Core.Path.{_≡_, sym, ap, _∙_}
 use native.Mathlib.Omega.{arith}
 use lib.ListN.{length}
 use denote.Ref.{now}
 use borrow.Author.Needs.{needs}
-use Rattle.machine.specs.Refusal.{lineCheck}
+use Rattle.machine.specs.Refusal.{given, lineCheck}
 use Rattle.machine.specs.Sizes.{columns, lineLength}
 use Rattle.machine.proofs.Refusals.{line-passed}
 use Rattle.video.specs.Answer.{lineRefusal, lineAnswer, lineContents}
@@ -49,10 +49,10 @@ module _ (e : tie.Else1) where
   accepted : let a = start .args in lineRefusal (now (a .memory)) (a .state) (a .line) (now (a .output)) ≡ 0
   accepted = sym (status (e .before)) ∙ e .if1 .left
 
-  paintable : let a = start .args in Paintable (length (now (a .memory))) lineLength (length (now (a .output))) (a .state) (lineCheck (a .line) ∷ [])
+  paintable : let a = start .args in Paintable (length (now (a .memory))) lineLength (length (now (a .output))) (a .state) (given (lineCheck (a .line)) 0)
   paintable =
       let a = start .args in
-      accepted-painting (length (now (a .memory))) lineLength (length (now (a .output))) (a .state) (lineCheck (a .line) ∷ []) accepted
+      accepted-painting (length (now (a .memory))) lineLength (length (now (a .output))) (a .state) (given (lineCheck (a .line)) 0) accepted
 
 fill-line-requires : tie.Need-fill-line-requires
 fill-line-requires c κs =
@@ -79,9 +79,6 @@ answer-requires c κs =
     rw (painted-is f)
     (small, (omega (arith, line-uses-screen-bytes (now (a .memory)) (a .state .counter) (a .line) (a .state .mode)), omega (arith, characters-most (cells (entry f)), cells-length (now (a .memory)) (a .state .counter) (a .line) (a .state .mode) columns)))
 
-same-length : tie.Need-same-length
-same-length c = search needs
-
 returns-2 : tie.Need-returns-2
 unfolding lineAnswer lineContents
 returns-2 c =
@@ -104,5 +101,5 @@ paint-line-spec =
     (λ c κs. tt)
     fill-line-requires
     answer-requires
-    same-length
+    (λ c. search needs)
     returns-2)

@@ -6,15 +6,9 @@ use Rattle.machine.specs.Bits.{bit}
 use Rattle.video.proofs.pattern.complement.Statement.{statement}
 use Rattle.video.proofs.pattern.complement.Tie as tie
 
-bit-requires : tie.Need-bit-requires
-bit-requires c κs = search needs
-
 -- bit 7 of the byte is tested
 tested : (k : tie.After-bit) → k .bit .result ≡ bit 128 (k .before .before .args .byte)
 tested k = k .bit .ensures ∙ ap (bit 128) (k .before .wide .ensures)
-
-sub-result : tie.Need-sub-result
-sub-result c = search needs
 
 returns : tie.Need-returns
 returns c = simp (sym (tested (c .before)) ∙ c .if1 .taken)
@@ -23,4 +17,4 @@ returns-2 : tie.Need-returns-2
 returns-2 c = simp (sym (tested (c .before)) ∙ c .if1 .left)
 
 pub complement-spec : {M : Type 1} → statement M
-complement-spec = tie.close (tie.spec (λ c κs. tt) bit-requires sub-result returns returns-2)
+complement-spec = tie.close (tie.spec (λ c κs. tt) (λ c κs. search needs) (λ c. search needs) returns returns-2)

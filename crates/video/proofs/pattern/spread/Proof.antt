@@ -6,12 +6,9 @@ use borrow.Author.Needs.{needs}
 use Rattle.video.proofs.pattern.spread.Statement.{statement}
 use Rattle.video.proofs.pattern.spread.Tie as tie
 
-mul-result : tie.Need-mul-result
-mul-result c = search needs
-
 returns : tie.Need-returns
 returns c = let pattern = c .before .args .pattern in
     cc (spread-by-copies pattern (omega (arith, c .before .fits .pattern)))
 
 pub spread-spec : {M : Type 1} → statement M
-spread-spec = tie.close (tie.spec (λ c κs. tt) mul-result returns)
+spread-spec = tie.close (tie.spec (λ c κs. tt) (λ c. search needs) returns)

@@ -4,11 +4,8 @@ use borrow.Author.Needs.{needs}
 use Rattle.video.proofs.registers.Registers.shown_ink.Statement.{statement}
 use Rattle.video.proofs.registers.Registers.shown_ink.Tie as tie
 
-bit-requires : tie.Need-bit-requires
-bit-requires c κs = search needs
-
 returns : tie.Need-returns
 returns c = cc
 
 pub shown-ink-spec : {M : Type 1} → statement M
-shown-ink-spec = tie.close (tie.spec bit-requires (λ c κs. tt) (λ c κs. tt) returns)
+shown-ink-spec = tie.close (tie.spec (λ c κs. search needs) (λ c κs. tt) (λ c κs. tt) returns)

@@ -4,11 +4,8 @@ use borrow.Author.Needs.{needs}
 use Rattle.video.proofs.state.State.after_frame.Statement.{statement}
 use Rattle.video.proofs.state.State.after_frame.Tie as tie
 
-next-counter-requires : tie.Need-next-counter-requires
-next-counter-requires c κs = search needs
-
 returns : tie.Need-returns
 returns c = cc
 
 pub after-frame-spec : {M : Type 1} → statement M
-after-frame-spec = tie.close (tie.spec next-counter-requires returns)
+after-frame-spec = tie.close (tie.spec (λ c κs. search needs) returns)
