@@ -1,3 +1,3 @@
-pub mod Cycles
 pub mod Rows
+pub mod Stores
 pub mod Walks

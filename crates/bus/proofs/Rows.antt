@@ -1,108 +1,38 @@
--- The rows of the decode table: where an address lies decides its target.
+-- The rows of the decode table: where an address lies decides which of the areas it reaches.
 -- Assumes nothing.
 use Prim.Native.Nat.{ℕ, _≤_, _<_}
-use mathlib.Core.Bool.{true, false}
-use mathlib.Core.Path.{_≡_}
+use mathlib.Core.Bool.{Bool, true, false}
+use mathlib.Core.Path.{_≡_, refl}
 use native.Mathlib.Omega.{arith}
-use borrow.Author.Tests.{le-leb, lt-leb, eq-eqb, ne-eqb}
-use Rattle.machine.specs.Bits.{bit}
-use Rattle.bus.specs.Place.{ram, via, controller, basicRom, overlayRam, bootEprom, unassigned, place, pageThree, upper}
-use Rattle.bus.specs.declared.latch.Latches.{Latches}
+use lib.Dec.{leb}
+use borrow.Author.Tests.{le-leb, lt-leb, leb-true}
+use Rattle.bus.specs.Place.{ram, between, areas}
+use Rattle.bus.specs.declared.place.Place.{Place}
 
-module _ (latches : Latches) (a : ℕ) where
-  pub below-page-three : a < 0x300 → place latches a ≡ ram a
-  unfolding place
-  below-page-three h = simp (lt-leb 0xC000 a (omega arith), lt-leb 0x300 a h)
+-- from low to high, both included, and not
+abbrev pub Within : ℕ → ℕ → ℕ → Type 0
+Within low high a = (low ≤ a) × (a ≤ high)
 
-  pub above-page-three : 0x400 ≤ a → a < 0xC000 → place latches a ≡ ram a
-  unfolding place
-  above-page-three l h = simp (lt-leb 0xC000 a h, le-leb 0x300 a (omega arith), lt-leb a 0x3FF (omega arith))
+abbrev pub Beyond : ℕ → ℕ → ℕ → Type 0
+Beyond low high a = low ≤ a → high < a
 
-  in-page-three : 0x300 ≤ a → a < 0x400 → place latches a ≡ pageThree (latches .kind) a
-  unfolding place
-  in-page-three l h = simp (lt-leb 0xC000 a (omega arith), le-leb 0x300 a l, le-leb a 0x3FF (omega arith))
+module _ (low high a : ℕ) where
+  pub within : Within low high a → between low high a ≡ true
+  within h = simp (le-leb low a (h .0), le-leb a high (h .1))
 
-  in-upper : 0xC000 ≤ a → place latches a ≡ upper latches a
-  unfolding place
-  in-upper l = simp (le-leb 0xC000 a l)
+  pub beyond : Beyond low high a → between low high a ≡ false
+  beyond h = go (leb low a) refl
+    where
+      go : (t : Bool) → leb low a ≡ t → between low high a ≡ false
+      go true e = simp (e, lt-leb a high (h (leb-true low a e)))
+      go false e = simp e
 
-  module _ (not-microdisc : latches .kind ≡ 1 → ⊥) (not-jasmin : latches .kind ≡ 2 → ⊥) where
-    pub plain-via : 0x300 ≤ a → a < 0x400 → place latches a ≡ via a
-    plain-via l h = simp (in-page-three l h, ne-eqb (latches .kind) 1 not-microdisc, ne-eqb (latches .kind) 2 not-jasmin)
+module _ (a : ℕ) where
+  pub in-upper : 0xC000 ≤ a → (pageThree upper : Place) → areas pageThree upper a ≡ upper
+  in-upper h pageThree upper = simp (le-leb 0xC000 a h)
 
-    pub plain-basic : 0xC000 ≤ a → place latches a ≡ basicRom a
-    plain-basic l = simp (in-upper l, ne-eqb (latches .kind) 1 not-microdisc, ne-eqb (latches .kind) 2 not-jasmin)
+  pub in-page-three : Within 0x300 0x3FF a → (pageThree upper : Place) → areas pageThree upper a ≡ pageThree
+  in-page-three h pageThree upper = simp (lt-leb 0xC000 a (omega arith), within 0x300 0x3FF a h)
 
-  module _ (microdisc : latches .kind ≡ 1) where
-    pub microdisc-controller : 0x310 ≤ a → a < 0x315 → place latches a ≡ controller a
-    microdisc-controller l h =
-        simp (in-page-three (omega arith) (omega arith), eq-eqb (latches .kind) 1 microdisc, le-leb 0x310 a l, le-leb a 0x314 (omega arith))
-
-    pub microdisc-controller-318 : a ≡ 0x318 → place latches a ≡ controller a
-    microdisc-controller-318 e =
-        simp (
-          in-page-three (omega arith) (omega arith),
-          eq-eqb (latches .kind) 1 microdisc,
-          le-leb 0x310 a (omega arith),
-          lt-leb a 0x314 (omega arith),
-          eq-eqb a 0x318 e,
-        )
-
-    pub microdisc-unassigned : 0x315 ≤ a → a < 0x320 → (a ≡ 0x318 → ⊥) → place latches a ≡ unassigned a
-    microdisc-unassigned l h n =
-        simp (
-          in-page-three (omega arith) (omega arith),
-          eq-eqb (latches .kind) 1 microdisc,
-          le-leb 0x310 a (omega arith),
-          lt-leb a 0x314 (omega arith),
-          ne-eqb a 0x318 n,
-          le-leb a 0x31F (omega arith),
-        )
-
-    pub microdisc-via-low : 0x300 ≤ a → a < 0x310 → place latches a ≡ via a
-    microdisc-via-low l h =
-        simp (in-page-three (omega arith) (omega arith), eq-eqb (latches .kind) 1 microdisc, lt-leb 0x310 a h, ne-eqb a 0x318 (omega arith))
-
-    pub microdisc-via-high : 0x320 ≤ a → a < 0x400 → place latches a ≡ via a
-    microdisc-via-high l h =
-        simp (
-          in-page-three (omega arith) (omega arith),
-          eq-eqb (latches .kind) 1 microdisc,
-          le-leb 0x310 a (omega arith),
-          lt-leb a 0x314 (omega arith),
-          ne-eqb a 0x318 (omega arith),
-          lt-leb a 0x31F (omega arith),
-        )
-
-    pub microdisc-basic : 0xC000 ≤ a → bit 2 (latches .first) ≡ true → place latches a ≡ basicRom a
-    microdisc-basic l basic = simp (in-upper l, eq-eqb (latches .kind) 1 microdisc, basic)
-
-    pub microdisc-overlay : 0xC000 ≤ a → bit 2 (latches .first) ≡ false → bit 128 (latches .first) ≡ true → place latches a ≡ overlayRam a
-    microdisc-overlay l basic overlay = simp (in-upper l, eq-eqb (latches .kind) 1 microdisc, basic, overlay)
-
-    pub microdisc-eprom : 0xC000 ≤ a → bit 2 (latches .first) ≡ false → bit 128 (latches .first) ≡ false → place latches a ≡ bootEprom a
-    microdisc-eprom l basic overlay = simp (in-upper l, eq-eqb (latches .kind) 1 microdisc, basic, overlay)
-
-  module _ (jasmin : latches .kind ≡ 2) where
-    pub jasmin-via : 0x300 ≤ a → a < 0x3F4 → place latches a ≡ via a
-    jasmin-via l h =
-        simp (in-page-three (omega arith) (omega arith), ne-eqb (latches .kind) 1 (omega arith), eq-eqb (latches .kind) 2 jasmin, lt-leb 0x3F4 a h)
-
-    pub jasmin-controller : 0x3F4 ≤ a → a < 0x400 → place latches a ≡ controller a
-    jasmin-controller l h =
-        simp (
-          in-page-three (omega arith) (omega arith),
-          ne-eqb (latches .kind) 1 (omega arith),
-          eq-eqb (latches .kind) 2 jasmin,
-          le-leb 0x3F4 a l,
-          le-leb a 0x3FF (omega arith),
-        )
-
-    pub jasmin-overlay : 0xC000 ≤ a → bit 1 (latches .first) ≡ true → place latches a ≡ overlayRam a
-    jasmin-overlay l overlay = simp (in-upper l, ne-eqb (latches .kind) 1 (omega arith), eq-eqb (latches .kind) 2 jasmin, overlay)
-
-    pub jasmin-eprom : 0xC000 ≤ a → bit 1 (latches .first) ≡ false → bit 1 (latches .second) ≡ true → place latches a ≡ bootEprom a
-    jasmin-eprom l overlay eprom = simp (in-upper l, ne-eqb (latches .kind) 1 (omega arith), eq-eqb (latches .kind) 2 jasmin, overlay, eprom)
-
-    pub jasmin-basic : 0xC000 ≤ a → bit 1 (latches .first) ≡ false → bit 1 (latches .second) ≡ false → place latches a ≡ basicRom a
-    jasmin-basic l overlay eprom = simp (in-upper l, ne-eqb (latches .kind) 1 (omega arith), eq-eqb (latches .kind) 2 jasmin, overlay, eprom)
+  pub in-ram : (a < 0xC000) × Beyond 0x300 0x3FF a → (pageThree upper : Place) → areas pageThree upper a ≡ ram a
+  in-ram h pageThree upper = simp (lt-leb 0xC000 a (h .0), beyond 0x300 0x3FF a (h .1))

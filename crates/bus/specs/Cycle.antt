@@ -2,11 +2,12 @@
 -- Assumes nothing.
 use Prim.Native.Nat.{ℕ}
 use mathlib.Core.Bool.{Bool, cond, _||_}
-use mathlib.Core.List.{List, [], _∷_}
+use mathlib.Core.List.{[], _∷_}
 use lib.Dec.{eqb}
-use lib.ListN.{getD, length, set}
+use lib.ListN.{length}
+use Rattle.machine.specs.Image.{Image, byteAt, withByte}
 use Rattle.machine.specs.Refusal.{refusal, ifDone, memoryCheck, kindCheck}
-use Rattle.bus.specs.Latch.{latched}
+use Rattle.bus.specs.Latch.{latchesAfter}
 use Rattle.bus.specs.Place.{place}
 use Rattle.bus.specs.declared.cycle.Access.{Access}
 use Rattle.bus.specs.declared.cycle.Written.{Written}
@@ -18,16 +19,16 @@ abbrev pub isMemory : Place → Bool
 isMemory reached = eqb (reached .target) 0 || eqb (reached .target) 4
 
 -- the byte that a place gives: that of RAM and overlay RAM, 0 for the other targets
-abbrev pub fetched : List ℕ → Place → ℕ
-fetched memory reached = cond (isMemory reached) (getD memory (reached .number) 0) 0
+abbrev pub fetched : Image → Place → ℕ
+fetched memory reached = cond (isMemory reached) (byteAt memory (reached .number)) 0
 
 -- the memory after a byte was sent to a place: RAM and overlay RAM store it, no other target does
-abbrev pub stored : List ℕ → Place → ℕ → List ℕ
-stored memory reached byte = cond (isMemory reached) (set memory (reached .number) byte) memory
+abbrev pub stored : Image → Place → ℕ → Image
+stored memory reached byte = cond (isMemory reached) (withByte memory (reached .number) byte) memory
 
--- refusals 1, 7, by the length of the memory and the latches
-abbrev pub accessRefusal : ℕ → Latches → ℕ
-accessRefusal size latches = refusal (memoryCheck size ∷ kindCheck (latches .kind) ∷ [])
+-- refusals 1, 7, by the length of the memory and the kind
+abbrev pub accessRefusal : ℕ → ℕ → ℕ
+accessRefusal size kind = refusal (memoryCheck size ∷ kindCheck kind ∷ [])
 
 -- what every access answers: target, number and byte, each 0 where it is refused
 abbrev pub accessAnswer : ℕ → Place → ℕ → Access
@@ -36,22 +37,22 @@ accessAnswer status reached byte =
     (record { status = status; target = 0; number = 0; byte = 0 })
 
 -- a read gives the byte of its place, and changes nothing
-unfoldable pub readAnswer : List ℕ → Latches → ℕ → Access
+unfoldable pub readAnswer : Image → Latches → ℕ → Access
 readAnswer memory latches address =
-    accessAnswer (accessRefusal (length memory) latches) (place latches address) (fetched memory (place latches address))
+    accessAnswer (accessRefusal (length memory) (latches .kind)) (place latches address) (fetched memory (place latches address))
 
 -- a write has 0 for its byte read
-unfoldable pub writeAnswer : List ℕ → Latches → ℕ → Access
-writeAnswer memory latches address = accessAnswer (accessRefusal (length memory) latches) (place latches address) 0
+unfoldable pub writeAnswer : Image → Latches → ℕ → Access
+writeAnswer memory latches address = accessAnswer (accessRefusal (length memory) (latches .kind)) (place latches address) 0
 
 -- the memory that a write leaves
-unfoldable pub writeContents : List ℕ → Latches → ℕ → ℕ → List ℕ
+unfoldable pub writeContents : Image → Latches → ℕ → ℕ → Image
 writeContents memory latches address byte =
-    ifDone (accessRefusal (length memory) latches) (stored memory (place latches address) byte) memory
+    ifDone (accessRefusal (length memory) (latches .kind)) (stored memory (place latches address) byte) memory
 
 -- the latches that a write leaves
-unfoldable pub writeLatches : List ℕ → Latches → ℕ → ℕ → Latches
-writeLatches memory latches address byte = ifDone (accessRefusal (length memory) latches) (latched latches address byte) latches
+unfoldable pub writeLatches : Image → Latches → ℕ → ℕ → Latches
+writeLatches memory latches address byte = ifDone (accessRefusal (length memory) (latches .kind)) (latchesAfter latches address byte) latches
 
 -- the answer of the write by value: that of the access, and the latches
 abbrev pub written : Access → Latches → Written

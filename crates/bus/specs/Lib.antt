@@ -1,3 +1,4 @@
 pub mod Latch
 pub mod Place
 pub mod Cycle
+pub mod Accesses

@@ -30,47 +30,70 @@ basicRom address = record { target = 3; number = address - 0xC000 }
 abbrev pub overlayRam : ℕ → Place
 overlayRam address = record { target = 4; number = address }
 
--- target 5, boot EPROM: the number counts from C000
-abbrev pub bootEprom : ℕ → Place
-bootEprom address = record { target = 5; number = address - 0xC000 }
+-- target 5, boot EPROM: the number counts from its start
+abbrev pub bootEprom : ℕ → ℕ → Place
+bootEprom start address = record { target = 5; number = address - start }
 
 -- target 6, unassigned: the number counts from 0300
 abbrev pub unassigned : ℕ → Place
 unassigned address = record { target = 6; number = address - 0x300 }
 
+-- the boot EPROM answers from C000 on
+abbrev pub epromStart : ℕ
+epromStart = 0xC000
+
 -- from low to high, both included
 abbrev pub between : ℕ → ℕ → ℕ → Bool
 between low high address = leb low address && leb address high
 
--- 0300 to 03FF by the controller kind
-abbrev pub pageThree : ℕ → ℕ → Place
-pageThree kind address =
-    cond (eqb kind 1)
-    (cond (between 0x310 0x314 address || eqb address 0x318) (controller address)
-    (cond (between 0x310 0x31F address) (unassigned address) (via address)))
-    (cond (eqb kind 2) (cond (between 0x3F4 0x3FF address) (controller address) (via address)) (via address))
+-- the areas of every decode: C000 to FFFF, page 3, and RAM
+abbrev pub areas : Place → Place → ℕ → Place
+areas pageThree upper address = cond (leb 0xC000 address) upper (cond (between 0x300 0x3FF address) pageThree (ram address))
 
--- C000 to FFFF: the Microdisc by bits 1 and 7 of its latch, the Jasmin by bit 0 of its two
-abbrev pub upper : Latches → ℕ → Place
-upper latches address =
-    cond (eqb (latches .kind) 1)
-    (cond (bit 2 (latches .first)) (basicRom address) (cond (bit 128 (latches .first)) (overlayRam address) (bootEprom address)))
-    (cond (eqb (latches .kind) 2)
-    (cond (bit 1 (latches .first)) (overlayRam address) (cond (bit 1 (latches .second)) (bootEprom address) (basicRom address)))
-    (basicRom address))
+-- no controller: page 3 is the VIA, C000 to FFFF is BASIC
+abbrev pub withoutController : ℕ → Place
+withoutController address = areas (via address) (basicRom address) address
 
--- the target that an address reaches
+-- the Microdisc's page 3: 0310 to 031F, of which 0310 to 0314 and 0318 are its registers
+abbrev pub microdiscPage : ℕ → Place
+microdiscPage address =
+    cond (between 0x310 0x31F address) (cond (leb address 0x314 || eqb address 0x318) (controller address) (unassigned address)) (via address)
+
+-- the Microdisc's latch: bit 1 set is BASIC, else bit 7 set is overlay RAM and clear the EPROM
+abbrev pub microdiscUpper : ℕ → ℕ → Place
+microdiscUpper latch address =
+    cond (bit 2 latch) (basicRom address) (cond (bit 128 latch) (overlayRam address) (bootEprom epromStart address))
+
+-- the Microdisc, by its one latch
+abbrev pub withMicrodisc : ℕ → ℕ → Place
+withMicrodisc latch address = areas (microdiscPage address) (microdiscUpper latch address) address
+
+-- the Jasmin's page 3: its registers at the end
+abbrev pub jasminPage : ℕ → Place
+jasminPage address = cond (between 0x3F4 0x3FF address) (controller address) (via address)
+
+-- the Jasmin's latches: bit 0 of the first set is overlay RAM, else bit 0 of the second set is the EPROM and clear BASIC
+abbrev pub jasminUpper : ℕ → ℕ → ℕ → Place
+jasminUpper first second address =
+    cond (bit 1 first) (overlayRam address) (cond (bit 1 second) (bootEprom epromStart address) (basicRom address))
+
+-- the Jasmin, by its two latches
+abbrev pub withJasmin : ℕ → ℕ → ℕ → Place
+withJasmin first second address = areas (jasminPage address) (jasminUpper first second address) address
+
+-- the target that an address reaches, by the controller kind
 unfoldable pub place : Latches → ℕ → Place
 place latches address =
-    cond (leb 0xC000 address) (upper latches address)
-    (cond (between 0x300 0x3FF address) (pageThree (latches .kind) address) (ram address))
+    cond (eqb (latches .kind) 1) (withMicrodisc (latches .first) address)
+    (cond (eqb (latches .kind) 2) (withJasmin (latches .first) (latches .second) address) (withoutController address))
 
--- refusal 7, with 0 for target and number
+-- refusal 7
 abbrev pub decodeRefusal : Latches → ℕ
 decodeRefusal latches = refusal (kindCheck (latches .kind) ∷ [])
 
+-- target and number, each 0 where the decode is refused
 unfoldable pub decodeAnswer : Latches → ℕ → Decoded
 decodeAnswer latches address =
-    let number = decodeRefusal latches in
-    ifDone number (record { status = 0; target = place latches address .target; number = place latches address .number })
-    (record { status = number; target = 0; number = 0 })
+    let status = decodeRefusal latches in
+    ifDone status (record { status = 0; target = place latches address .target; number = place latches address .number })
+    (record { status = status; target = 0; number = 0 })

@@ -1,14 +1,13 @@
 // One read or write of the bus.
 ghost use mathlib.Core.Path.{_≡_};
 ghost use Rattle.bus.specs.Cycle.{isMemory, fetched, stored, accessRefusal, readAnswer, writeAnswer, writeContents, writeLatches, written};
-ghost use lib.ListN.{length};
+ghost use Rattle.machine.specs.Image.{IsImage};
 use crate::latch::Latches;
 use crate::place::OVERLAY_RAM;
 use crate::place::Place;
 use crate::place::RAM;
 use crate::place::reach;
 use machine::DONE;
-use machine::first_refusal;
 use machine::kind_refusal;
 use machine::memory_refusal;
 
@@ -34,7 +33,7 @@ pub struct Written {
 pub fn read(memory: &[u8], latches: Latches, address: u16) -> Access
     ensures { λ r. ⌜ r ≡ readAnswer (now (memory .entry)) latches address ⌝ }
 {
-    let status = access_refusal(memory.len(), latches);
+    let status = access_refusal(memory.len(), latches.kind);
     if status != DONE {
         return Access {
             status,
@@ -58,7 +57,7 @@ pub fn write(memory: &mut [u8], latches: Latches, address: u16, byte: u8) -> Wri
     ensures { λ r. ⌜ r ≡ written (writeAnswer (now (memory .entry)) latches address) (writeLatches (now (memory .entry)) latches address byte) ⌝ }
     ensures { λ r. ⌜ now (memory .exit) ≡ writeContents (now (memory .entry)) latches address byte ⌝ }
 {
-    let status = access_refusal(memory.len(), latches);
+    let status = access_refusal(memory.len(), latches.kind);
     if status != DONE {
         return Written {
             status,
@@ -70,7 +69,7 @@ pub fn write(memory: &mut [u8], latches: Latches, address: u16, byte: u8) -> Wri
     }
     let reached = reach(latches, address);
     store(memory, reached, byte);
-    let after = latches.latch(address, byte);
+    let after = latches.after_write(address, byte);
     Written {
         status,
         target: reached.target,
@@ -80,16 +79,14 @@ pub fn write(memory: &mut [u8], latches: Latches, address: u16, byte: u8) -> Wri
     }
 }
 
-fn access_refusal(size: usize, latches: Latches) -> u8
-    ensures { λ r. ⌜ r ≡ accessRefusal size latches ⌝ }
+fn access_refusal(size: usize, kind: u8) -> u8
+    ensures { λ r. ⌜ r ≡ accessRefusal size kind ⌝ }
 {
-    let wrong_memory = memory_refusal(size);
-    let wrong_kind = kind_refusal(latches.kind);
-    first_refusal(wrong_memory, wrong_kind)
+    memory_refusal(size, kind_refusal(kind, DONE))
 }
 
 fn fetch(memory: &[u8], reached: Place) -> u8
-    requires { ⌜ length (now memory) ≡ 65536 ⌝ }
+    requires { ⌜ IsImage (now memory) ⌝ }
     ensures { λ r. ⌜ r ≡ fetched (now (memory .entry)) reached ⌝ }
 {
     if is_memory(reached) {
@@ -101,7 +98,7 @@ fn fetch(memory: &[u8], reached: Place) -> u8
 }
 
 fn store(memory: &mut [u8], reached: Place, byte: u8)
-    requires { ⌜ length (now memory) ≡ 65536 ⌝ }
+    requires { ⌜ IsImage (now memory) ⌝ }
     ensures { λ r. ⌜ now (memory .exit) ≡ stored (now (memory .entry)) reached byte ⌝ }
 {
     if is_memory(reached) {
@@ -113,9 +110,5 @@ fn store(memory: &mut [u8], reached: Place, byte: u8)
 fn is_memory(reached: Place) -> bool
     ensures { λ r. ⌜ r ≡ isMemory reached ⌝ }
 {
-    let target = reached.target;
-    match target {
-        RAM | OVERLAY_RAM => true,
-        _ => false,
-    }
+    (reached.target == RAM) | (reached.target == OVERLAY_RAM)
 }

@@ -1,6 +1,7 @@
 // The controller kind and its two latch bytes.
 ghost use mathlib.Core.Path.{_≡_};
-ghost use Rattle.bus.specs.Latch.{freshLatches, isFirstLatch, isSecondLatch, latched};
+ghost use mathlib.Core.Bool.{cond};
+ghost use Rattle.bus.specs.Latch.{freshLatches, isFirstLatch, isSecondLatch, latchesAfter};
 
 pub const NO_CONTROLLER: u8 = 0;
 
@@ -23,12 +24,12 @@ pub struct Latches {
     pub second: u8,
 }
 
-// Latches that nothing has been written to. Any kind is taken; the calls that use it refuse a wrong one.
-pub fn fresh_latches(kind: u8) -> Latches
-    ensures { λ r. ⌜ r ≡ freshLatches kind ⌝ }
+// No controller, and latches that nothing has been written to.
+pub fn fresh_latches() -> Latches
+    ensures { λ r. ⌜ r ≡ freshLatches ⌝ }
 {
     Latches {
-        kind,
+        kind: NO_CONTROLLER,
         first: 0,
         second: 0,
     }
@@ -36,37 +37,35 @@ pub fn fresh_latches(kind: u8) -> Latches
 
 impl Latches {
     // The latches after a write, from the next access on.
-    pub(crate) fn latch(self, address: u16, byte: u8) -> Self
-        ensures { λ r. ⌜ r ≡ latched self address byte ⌝ }
+    pub(crate) fn after_write(self, address: u16, byte: u8) -> Self
+        ensures { λ r. ⌜ r ≡ latchesAfter self address byte ⌝ }
     {
-        let mut after = self;
-        if is_first_latch(self.kind, address) {
-            after.first = byte;
-            return after;
+        let kind = self.kind;
+        let first = byte_after(is_first_latch(kind, address), byte, self.first);
+        let second = byte_after(is_second_latch(kind, address), byte, self.second);
+        Latches {
+            kind,
+            first,
+            second,
         }
-        if is_second_latch(self.kind, address) {
-            after.second = byte;
-            return after;
-        }
-        self
     }
 }
 
 fn is_first_latch(kind: u8, address: u16) -> bool
     ensures { λ r. ⌜ r ≡ isFirstLatch kind address ⌝ }
 {
-    match kind {
-        MICRODISC => address == MICRODISC_LATCH,
-        JASMIN => address == JASMIN_FIRST_LATCH,
-        _ => false,
-    }
+    ((kind == MICRODISC) & (address == MICRODISC_LATCH))
+        | ((kind == JASMIN) & (address == JASMIN_FIRST_LATCH))
 }
 
 fn is_second_latch(kind: u8, address: u16) -> bool
     ensures { λ r. ⌜ r ≡ isSecondLatch kind address ⌝ }
 {
-    match kind {
-        JASMIN => address == JASMIN_SECOND_LATCH,
-        _ => false,
-    }
+    (kind == JASMIN) & (address == JASMIN_SECOND_LATCH)
+}
+
+fn byte_after(sets: bool, byte: u8, before: u8) -> u8
+    ensures { λ r. ⌜ r ≡ cond sets byte before ⌝ }
+{
+    if sets { byte } else { before }
 }

@@ -1,8 +1,8 @@
 // The address decode: a target, and the number of the byte or register that it selects there.
 ghost use mathlib.Core.Path.{_≡_};
-ghost use Prim.Native.Nat.{_≤_};
+ghost use Prim.Native.Nat.{_≤_, _<_};
 ghost use Rattle.machine.specs.Bits.{bit};
-ghost use Rattle.bus.specs.Place.{ram, via, controller, basicRom, overlayRam, bootEprom, unassigned, upper, place, decodeAnswer};
+ghost use Rattle.bus.specs.Place.{ram, via, controller, basicRom, overlayRam, bootEprom, unassigned, withoutController, microdiscUpper, withMicrodisc, jasminUpper, withJasmin, place, decodeAnswer};
 use crate::latch::JASMIN;
 use crate::latch::Latches;
 use crate::latch::MICRODISC;
@@ -30,6 +30,18 @@ const UPPER: u16 = 0xC000;
 
 const VIA_REGISTERS: u16 = 16;
 
+// Where the boot EPROM begins.
+const EPROM_START: u16 = 0xC000;
+
+// The bits of the latches, by their weights.
+const MICRODISC_BASIC: u8 = 2;
+
+const MICRODISC_OVERLAY: u8 = 128;
+
+const JASMIN_OVERLAY: u8 = 1;
+
+const JASMIN_EPROM: u8 = 1;
+
 #[repr(C)]
 pub struct Decoded {
     pub status: u8,
@@ -46,7 +58,7 @@ pub(crate) struct Place {
 pub fn decode(latches: Latches, address: u16) -> Decoded
     ensures { λ r. ⌜ r ≡ decodeAnswer latches address ⌝ }
 {
-    let status = kind_refusal(latches.kind);
+    let status = kind_refusal(latches.kind, DONE);
     if status != DONE {
         return Decoded {
             status,
@@ -67,15 +79,14 @@ pub(crate) fn reach(latches: Latches, address: u16) -> Place
 {
     let kind = latches.kind;
     match kind {
-        MICRODISC => reach_with_microdisc(latches, address),
-        JASMIN => reach_with_jasmin(latches, address),
-        _ => reach_without_controller(latches, address),
+        MICRODISC => reach_with_microdisc(latches.first, address),
+        JASMIN => reach_with_jasmin(latches.first, latches.second, address),
+        _ => reach_without_controller(address),
     }
 }
 
-fn reach_without_controller(latches: Latches, address: u16) -> Place
-    requires { ⌜ (latches .kind ≡ 1 → ⊥) × (latches .kind ≡ 2 → ⊥) ⌝ }
-    ensures { λ r. ⌜ r ≡ place latches address ⌝ }
+fn reach_without_controller(address: u16) -> Place
+    ensures { λ r. ⌜ r ≡ withoutController address ⌝ }
 {
     match address {
         0x0300..=0x03FF => to_via(address),
@@ -84,66 +95,60 @@ fn reach_without_controller(latches: Latches, address: u16) -> Place
     }
 }
 
-fn reach_with_microdisc(latches: Latches, address: u16) -> Place
-    requires { ⌜ latches .kind ≡ 1 ⌝ }
-    ensures { λ r. ⌜ r ≡ place latches address ⌝ }
+fn reach_with_microdisc(latch: u8, address: u16) -> Place
+    ensures { λ r. ⌜ r ≡ withMicrodisc latch address ⌝ }
 {
     match address {
         0x0310..=0x0314 | 0x0318 => to_controller(address),
         0x0310..=0x031F => to_unassigned(address),
         0x0300..=0x03FF => to_via(address),
-        0xC000..=0xFFFF => {
-            if is_basic(latches.first) {
-                to_basic_rom(address)
-            } else if is_overlay(latches.first) {
-                to_overlay_ram(address)
-            } else {
-                to_boot_eprom(address)
-            }
-        }
+        0xC000..=0xFFFF => microdisc_upper(latch, address),
         _ => to_ram(address),
     }
 }
 
-fn reach_with_jasmin(latches: Latches, address: u16) -> Place
-    requires { ⌜ latches .kind ≡ 2 ⌝ }
-    ensures { λ r. ⌜ r ≡ place latches address ⌝ }
+fn reach_with_jasmin(first: u8, second: u8, address: u16) -> Place
+    ensures { λ r. ⌜ r ≡ withJasmin first second address ⌝ }
 {
     match address {
         0x03F4..=0x03FF => to_controller(address),
         0x0300..=0x03FF => to_via(address),
-        0xC000..=0xFFFF => {
-            if is_odd(latches.first) {
-                to_overlay_ram(address)
-            } else if is_odd(latches.second) {
-                to_boot_eprom(address)
-            } else {
-                to_basic_rom(address)
-            }
-        }
+        0xC000..=0xFFFF => jasmin_upper(first, second, address),
         _ => to_ram(address),
     }
 }
 
-// Bit 1 of the Microdisc's latch.
-fn is_basic(latch: u8) -> bool
-    ensures { λ r. ⌜ r ≡ bit 2 latch ⌝ }
+fn microdisc_upper(latch: u8, address: u16) -> Place
+    requires { ⌜ 0xC000 ≤ address ⌝ }
+    ensures { λ r. ⌜ r ≡ microdiscUpper latch address ⌝ }
 {
-    latch / 2 % 2 == 1
+    if is_set(MICRODISC_BASIC, latch) {
+        to_basic_rom(address)
+    } else if is_set(MICRODISC_OVERLAY, latch) {
+        to_overlay_ram(address)
+    } else {
+        to_boot_eprom(EPROM_START, address)
+    }
 }
 
-// Bit 7 of the Microdisc's latch.
-fn is_overlay(latch: u8) -> bool
-    ensures { λ r. ⌜ r ≡ bit 128 latch ⌝ }
+fn jasmin_upper(first: u8, second: u8, address: u16) -> Place
+    requires { ⌜ 0xC000 ≤ address ⌝ }
+    ensures { λ r. ⌜ r ≡ jasminUpper first second address ⌝ }
 {
-    latch / 128 % 2 == 1
+    if is_set(JASMIN_OVERLAY, first) {
+        to_overlay_ram(address)
+    } else if is_set(JASMIN_EPROM, second) {
+        to_boot_eprom(EPROM_START, address)
+    } else {
+        to_basic_rom(address)
+    }
 }
 
-// Bit 0 of a latch of the Jasmin.
-fn is_odd(latch: u8) -> bool
-    ensures { λ r. ⌜ r ≡ bit 1 latch ⌝ }
+fn is_set(weight: u8, latch: u8) -> bool
+    requires { ⌜ 0 < weight ⌝ }
+    ensures { λ r. ⌜ r ≡ bit weight latch ⌝ }
 {
-    latch % 2 == 1
+    latch / weight % 2 == 1
 }
 
 fn to_ram(address: u16) -> Place
@@ -203,12 +208,12 @@ fn to_overlay_ram(address: u16) -> Place
     }
 }
 
-fn to_boot_eprom(address: u16) -> Place
-    requires { ⌜ 0xC000 ≤ address ⌝ }
-    ensures { λ r. ⌜ r ≡ bootEprom address ⌝ }
+fn to_boot_eprom(start: u16, address: u16) -> Place
+    requires { ⌜ start ≤ address ⌝ }
+    ensures { λ r. ⌜ r ≡ bootEprom start address ⌝ }
 {
     Place {
         target: BOOT_EPROM,
-        number: address - UPPER,
+        number: address - start,
     }
 }

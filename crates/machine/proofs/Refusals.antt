@@ -7,7 +7,7 @@ use native.Mathlib.Omega.{arith}
 use lib.Dec.{T, eqb, leb, ltb}
 use borrow.Author.Tests.{eq-eqb, eqb-true, leb-false, ltb-false, not-false}
 use Rattle.machine.specs.Image.{imageLength}
-use Rattle.machine.specs.Refusal.{Check, given, ifDone, memoryCheck, outputCheck, modeCheck, counterCheck, lineCheck, columnCheck, kindCheck}
+use Rattle.machine.specs.Refusal.{given, ifDone, memoryCheck, outputCheck, modeCheck, counterCheck, lineCheck, columnCheck, kindCheck}
 use Rattle.machine.specs.Sizes.{columns, lines, lastMode, lastCount, lastKind}
 
 pub done : {A : Type 0} (n : ℕ) (a b : A) → n ≡ 0 → ifDone n a b ≡ a

@@ -12,7 +12,7 @@ use Rattle.video.specs.Address.{isHires, bitmapLines, screenAddress}
 use Rattle.video.specs.Registers.{isAttribute}
 use Rattle.video.specs.Cell.{screenByte}
 use Rattle.video.specs.Line.{registersBefore, cellAt}
-use Rattle.bus.specs.Place.{place, basicRom, overlayRam, bootEprom}
+use Rattle.bus.specs.Place.{place, basicRom, overlayRam, bootEprom, epromStart}
 
 -- the mode is text
 abbrev pub Text : ℕ → Type 0
@@ -71,5 +71,5 @@ pub record Figures : Type 0 where
       → screenByte image 0 5 (registersBefore image 0 mode 5 .mode) ≡ 0x1A
       → (cellAt image counter 0 mode 6 .screen ≡ 0xBB86) × (cellAt image counter 0 mode 6 .mode ≡ 2)
   pub microdisc-FD : (second : ℕ) → place (record { kind = 1; first = 0xFD; second = second }) 0xC000 ≡ overlayRam 0xC000
-  pub microdisc-00 : (second : ℕ) → place (record { kind = 1; first = 0x00; second = second }) 0xC000 ≡ bootEprom 0xC000
+  pub microdisc-00 : (second : ℕ) → place (record { kind = 1; first = 0x00; second = second }) 0xC000 ≡ bootEprom epromStart 0xC000
   pub microdisc-02 : (second : ℕ) → place (record { kind = 1; first = 0x02; second = second }) 0xC000 ≡ basicRom 0xC000
