@@ -3,9 +3,9 @@ ghost use mathlib.Core.Path.{_≡_};
 ghost use Rattle.bus.specs.Cycle.{isMemory, fetched, stored, accessRefusal, readAnswer, writeAnswer, writeContents, writeLatches, written};
 ghost use Rattle.machine.specs.Image.{IsImage};
 use crate::latch::Latches;
-use crate::place::OVERLAY_RAM;
 use crate::place::Place;
-use crate::place::RAM;
+use crate::place::TARGET_OVERLAY_RAM;
+use crate::place::TARGET_RAM;
 use crate::place::reach;
 use machine::DONE;
 use machine::kind_refusal;
@@ -110,5 +110,5 @@ fn store(memory: &mut [u8], reached: Place, byte: u8)
 fn is_memory(reached: Place) -> bool
     ensures { λ r. ⌜ r ≡ isMemory reached ⌝ }
 {
-    (reached.target == RAM) | (reached.target == OVERLAY_RAM)
+    (reached.target == TARGET_RAM) | (reached.target == TARGET_OVERLAY_RAM)
 }

@@ -3,11 +3,11 @@ ghost use mathlib.Core.Path.{_≡_};
 ghost use mathlib.Core.Bool.{cond};
 ghost use Rattle.bus.specs.Latch.{freshLatches, isFirstLatch, isSecondLatch, latchesAfter};
 
-pub const NO_CONTROLLER: u8 = 0;
+pub const KIND_NONE: u8 = 0;
 
-pub const MICRODISC: u8 = 1;
+pub const KIND_MICRODISC: u8 = 1;
 
-pub const JASMIN: u8 = 2;
+pub const KIND_JASMIN: u8 = 2;
 
 // Where a write sets a latch.
 const MICRODISC_LATCH: u16 = 0x0314;
@@ -29,7 +29,7 @@ pub fn fresh_latches() -> Latches
     ensures { λ r. ⌜ r ≡ freshLatches ⌝ }
 {
     Latches {
-        kind: NO_CONTROLLER,
+        kind: KIND_NONE,
         first: 0,
         second: 0,
     }
@@ -54,14 +54,14 @@ impl Latches {
 fn is_first_latch(kind: u8, address: u16) -> bool
     ensures { λ r. ⌜ r ≡ isFirstLatch kind address ⌝ }
 {
-    ((kind == MICRODISC) & (address == MICRODISC_LATCH))
-        | ((kind == JASMIN) & (address == JASMIN_FIRST_LATCH))
+    ((kind == KIND_MICRODISC) & (address == MICRODISC_LATCH))
+        | ((kind == KIND_JASMIN) & (address == JASMIN_FIRST_LATCH))
 }
 
 fn is_second_latch(kind: u8, address: u16) -> bool
     ensures { λ r. ⌜ r ≡ isSecondLatch kind address ⌝ }
 {
-    (kind == JASMIN) & (address == JASMIN_SECOND_LATCH)
+    (kind == KIND_JASMIN) & (address == JASMIN_SECOND_LATCH)
 }
 
 fn byte_after(sets: bool, byte: u8, before: u8) -> u8

@@ -3,25 +3,25 @@ ghost use mathlib.Core.Path.{_≡_};
 ghost use Prim.Native.Nat.{_≤_, _<_};
 ghost use Rattle.machine.specs.Bits.{bit};
 ghost use Rattle.bus.specs.Place.{ram, via, controller, basicRom, overlayRam, bootEprom, unassigned, withoutController, microdiscUpper, withMicrodisc, jasminUpper, withJasmin, place, decodeAnswer};
-use crate::latch::JASMIN;
+use crate::latch::KIND_JASMIN;
+use crate::latch::KIND_MICRODISC;
 use crate::latch::Latches;
-use crate::latch::MICRODISC;
 use machine::DONE;
 use machine::kind_refusal;
 
-pub const RAM: u8 = 0;
+pub const TARGET_RAM: u8 = 0;
 
-pub const VIA: u8 = 1;
+pub const TARGET_VIA: u8 = 1;
 
-pub const CONTROLLER: u8 = 2;
+pub const TARGET_CONTROLLER: u8 = 2;
 
-pub const BASIC_ROM: u8 = 3;
+pub const TARGET_BASIC_ROM: u8 = 3;
 
-pub const OVERLAY_RAM: u8 = 4;
+pub const TARGET_OVERLAY_RAM: u8 = 4;
 
-pub const BOOT_EPROM: u8 = 5;
+pub const TARGET_BOOT_EPROM: u8 = 5;
 
-pub const UNASSIGNED: u8 = 6;
+pub const TARGET_UNASSIGNED: u8 = 6;
 
 // Page 3 holds the registers; ROM, EPROM and overlay RAM share the upper 16K.
 const PAGE_3: u16 = 0x0300;
@@ -79,8 +79,8 @@ pub(crate) fn reach(latches: Latches, address: u16) -> Place
 {
     let kind = latches.kind;
     match kind {
-        MICRODISC => reach_with_microdisc(latches.first, address),
-        JASMIN => reach_with_jasmin(latches.first, latches.second, address),
+        KIND_MICRODISC => reach_with_microdisc(latches.first, address),
+        KIND_JASMIN => reach_with_jasmin(latches.first, latches.second, address),
         _ => reach_without_controller(address),
     }
 }
@@ -155,7 +155,7 @@ fn to_ram(address: u16) -> Place
     ensures { λ r. ⌜ r ≡ ram address ⌝ }
 {
     Place {
-        target: RAM,
+        target: TARGET_RAM,
         number: address,
     }
 }
@@ -164,7 +164,7 @@ fn to_via(address: u16) -> Place
     ensures { λ r. ⌜ r ≡ via address ⌝ }
 {
     Place {
-        target: VIA,
+        target: TARGET_VIA,
         number: address % VIA_REGISTERS,
     }
 }
@@ -174,7 +174,7 @@ fn to_controller(address: u16) -> Place
     ensures { λ r. ⌜ r ≡ controller address ⌝ }
 {
     Place {
-        target: CONTROLLER,
+        target: TARGET_CONTROLLER,
         number: address - PAGE_3,
     }
 }
@@ -184,7 +184,7 @@ fn to_unassigned(address: u16) -> Place
     ensures { λ r. ⌜ r ≡ unassigned address ⌝ }
 {
     Place {
-        target: UNASSIGNED,
+        target: TARGET_UNASSIGNED,
         number: address - PAGE_3,
     }
 }
@@ -194,7 +194,7 @@ fn to_basic_rom(address: u16) -> Place
     ensures { λ r. ⌜ r ≡ basicRom address ⌝ }
 {
     Place {
-        target: BASIC_ROM,
+        target: TARGET_BASIC_ROM,
         number: address - UPPER,
     }
 }
@@ -203,7 +203,7 @@ fn to_overlay_ram(address: u16) -> Place
     ensures { λ r. ⌜ r ≡ overlayRam address ⌝ }
 {
     Place {
-        target: OVERLAY_RAM,
+        target: TARGET_OVERLAY_RAM,
         number: address,
     }
 }
@@ -213,7 +213,7 @@ fn to_boot_eprom(start: u16, address: u16) -> Place
     ensures { λ r. ⌜ r ≡ bootEprom start address ⌝ }
 {
     Place {
-        target: BOOT_EPROM,
+        target: TARGET_BOOT_EPROM,
         number: address - start,
     }
 }

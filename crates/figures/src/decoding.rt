@@ -18,27 +18,27 @@ pub(crate) fn settings() {
 }
 
 fn without_controller() {
-    setting(bus::NO_CONTROLLER, 0, 0);
-    setting(bus::NO_CONTROLLER, 255, 255);
+    setting(bus::KIND_NONE, 0, 0);
+    setting(bus::KIND_NONE, 255, 255);
 }
 
 fn microdisc() {
-    setting(bus::MICRODISC, 0, 0);
-    setting(bus::MICRODISC, 2, 0);
-    setting(bus::MICRODISC, 128, 0);
-    setting(bus::MICRODISC, 130, 0);
-    setting(bus::MICRODISC, 253, 0);
-    setting(bus::MICRODISC, 125, 255);
+    setting(bus::KIND_MICRODISC, 0, 0);
+    setting(bus::KIND_MICRODISC, 2, 0);
+    setting(bus::KIND_MICRODISC, 128, 0);
+    setting(bus::KIND_MICRODISC, 130, 0);
+    setting(bus::KIND_MICRODISC, 253, 0);
+    setting(bus::KIND_MICRODISC, 125, 255);
 }
 
 fn jasmin() {
-    setting(bus::JASMIN, 0, 0);
-    setting(bus::JASMIN, 1, 0);
-    setting(bus::JASMIN, 0, 1);
-    setting(bus::JASMIN, 1, 1);
-    setting(bus::JASMIN, 254, 254);
-    setting(bus::JASMIN, 255, 254);
-    setting(bus::JASMIN, 254, 255);
+    setting(bus::KIND_JASMIN, 0, 0);
+    setting(bus::KIND_JASMIN, 1, 0);
+    setting(bus::KIND_JASMIN, 0, 1);
+    setting(bus::KIND_JASMIN, 1, 1);
+    setting(bus::KIND_JASMIN, 254, 254);
+    setting(bus::KIND_JASMIN, 255, 254);
+    setting(bus::KIND_JASMIN, 254, 255);
 }
 
 fn setting(kind: u8, first: u8, second: u8) {

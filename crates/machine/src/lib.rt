@@ -33,16 +33,16 @@ pub const LAST_KIND: u8 = 2;
 // The status of an answer: 0 is done, any other number is the first refusal that applies.
 pub const DONE: u8 = 0;
 
-pub const WRONG_MEMORY: u8 = 1;
+pub const REFUSED_MEMORY: u8 = 1;
 
-pub const WRONG_OUTPUT: u8 = 2;
+pub const REFUSED_OUTPUT: u8 = 2;
 
-pub const WRONG_MODE: u8 = 3;
+pub const REFUSED_MODE: u8 = 3;
 
-pub const WRONG_COUNTER: u8 = 4;
+pub const REFUSED_COUNTER: u8 = 4;
 
-pub const WRONG_LINE: u8 = 5;
+pub const REFUSED_LINE: u8 = 5;
 
-pub const WRONG_COLUMN: u8 = 6;
+pub const REFUSED_COLUMN: u8 = 6;
 
-pub const WRONG_KIND: u8 = 7;
+pub const REFUSED_KIND: u8 = 7;

@@ -9,13 +9,13 @@ use crate::LAST_COUNT;
 use crate::LAST_KIND;
 use crate::LAST_MODE;
 use crate::LINES;
-use crate::WRONG_COLUMN;
-use crate::WRONG_COUNTER;
-use crate::WRONG_KIND;
-use crate::WRONG_LINE;
-use crate::WRONG_MEMORY;
-use crate::WRONG_MODE;
-use crate::WRONG_OUTPUT;
+use crate::REFUSED_COLUMN;
+use crate::REFUSED_COUNTER;
+use crate::REFUSED_KIND;
+use crate::REFUSED_LINE;
+use crate::REFUSED_MEMORY;
+use crate::REFUSED_MODE;
+use crate::REFUSED_OUTPUT;
 
 fn refuse_if(applies: bool, number: u8, later: u8) -> u8
     ensures { λ r. ⌜ r ≡ cond applies number later ⌝ }
@@ -26,41 +26,41 @@ fn refuse_if(applies: bool, number: u8, later: u8) -> u8
 pub fn memory_refusal(size: usize, later: u8) -> u8
     ensures { λ r. ⌜ r ≡ given (memoryCheck size) later ⌝ }
 {
-    refuse_if(size != IMAGE_LENGTH, WRONG_MEMORY, later)
+    refuse_if(size != IMAGE_LENGTH, REFUSED_MEMORY, later)
 }
 
 pub fn output_refusal(wanted: usize, size: usize, later: u8) -> u8
     ensures { λ r. ⌜ r ≡ given (outputCheck wanted size) later ⌝ }
 {
-    refuse_if(size != wanted, WRONG_OUTPUT, later)
+    refuse_if(size != wanted, REFUSED_OUTPUT, later)
 }
 
 pub fn mode_refusal(mode: u8, later: u8) -> u8
     ensures { λ r. ⌜ r ≡ given (modeCheck mode) later ⌝ }
 {
-    refuse_if(mode > LAST_MODE, WRONG_MODE, later)
+    refuse_if(mode > LAST_MODE, REFUSED_MODE, later)
 }
 
 pub fn counter_refusal(counter: u8, later: u8) -> u8
     ensures { λ r. ⌜ r ≡ given (counterCheck counter) later ⌝ }
 {
-    refuse_if(counter > LAST_COUNT, WRONG_COUNTER, later)
+    refuse_if(counter > LAST_COUNT, REFUSED_COUNTER, later)
 }
 
 pub fn line_refusal(line: usize, later: u8) -> u8
     ensures { λ r. ⌜ r ≡ given (lineCheck line) later ⌝ }
 {
-    refuse_if(line >= LINES, WRONG_LINE, later)
+    refuse_if(line >= LINES, REFUSED_LINE, later)
 }
 
 pub fn column_refusal(column: usize, later: u8) -> u8
     ensures { λ r. ⌜ r ≡ given (columnCheck column) later ⌝ }
 {
-    refuse_if(column >= COLUMNS, WRONG_COLUMN, later)
+    refuse_if(column >= COLUMNS, REFUSED_COLUMN, later)
 }
 
 pub fn kind_refusal(kind: u8, later: u8) -> u8
     ensures { λ r. ⌜ r ≡ given (kindCheck kind) later ⌝ }
 {
-    refuse_if(kind > LAST_KIND, WRONG_KIND, later)
+    refuse_if(kind > LAST_KIND, REFUSED_KIND, later)
 }

@@ -1,2 +1,1 @@
-// Both halves together: the proved figures, the noninterference theorem, and the entry points exported to C.
-mod exports;
+// Both halves together: the proved figures and the noninterference theorem. All of it is in specs/ and proofs/.

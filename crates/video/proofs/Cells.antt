@@ -28,9 +28,9 @@ pub record Coloured (registers : Registers) : Type 0 where
 pub latched-coloured : (before : Registers) (byte : ℕ) → Coloured before → Coloured (latched before byte)
 unfolding latched
 latched-coloured before byte h =
-    cond-all Coloured (ltb (byte % 32) 8) _ _ (record { ink = omega arith; paper = h .paper })
-    (cond-all Coloured (ltb (byte % 32) 16) _ _ (record { ink = h .ink; paper = h .paper })
-    (cond-all Coloured (ltb (byte % 32) 24) _ _ (record { ink = h .ink; paper = omega arith }) (record { ink = h .ink; paper = h .paper })))
+    cond-all Coloured (ltb (byte % 32) 8) _ _ (record { ink = omega arith; paper = omega arith })
+    (cond-all Coloured (ltb (byte % 32) 16) _ _ (record { ink = omega arith; paper = omega arith })
+    (cond-all Coloured (ltb (byte % 32) 24) _ _ (record { ink = omega arith; paper = omega arith }) (record { ink = omega arith; paper = omega arith })))
 
 pub after-coloured : (before : Registers) (byte : ℕ) → Coloured before → Coloured (registersAfter before byte)
 unfolding registersAfter

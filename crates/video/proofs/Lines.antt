@@ -11,7 +11,7 @@ use Rattle.machine.specs.Lists.{gather, Each}
 use Rattle.machine.specs.Sizes.{cellLength, columns, lineLength, lastMode}
 use Rattle.machine.proofs.Each.{each-none, each-cons, each-gather, each-map}
 use Rattle.machine.proofs.Lists.{gather-next, gather-length, flatten-length}
-use Rattle.video.specs.Cell.{Cell, cell, screenByte, pixels, modeLeft}
+use Rattle.video.specs.Cell.{Cell, cell, pixels, modeLeft}
 use Rattle.video.specs.Laws.{LineUsesScreenBytes}
 use Rattle.video.specs.Line.{registersBefore, cellAt, firstCells, lineCells}
 use Rattle.video.proofs.Cells.{Coloured, after-coloured, after-mode, cell-six}
@@ -48,17 +48,13 @@ module _ (image : Image) (line mode : ℕ) where
   pub registers-coloured : (n : ℕ) → Coloured (registersBefore image line mode n)
   unfolding registersBefore
   registers-coloured zero = record { ink = omega arith; paper = omega arith }
-  registers-coloured (suc n) =
-      let before = registersBefore image line mode n in
-      after-coloured before (screenByte image line n (before .mode)) (registers-coloured n)
+  registers-coloured (suc n) = after-coloured (registersBefore image line mode n) _ (registers-coloured n)
 
   -- the mode is 0 to 7 where it was before the line
   pub mode-small : mode ≤ lastMode → (n : ℕ) → registersBefore image line mode n .mode ≤ lastMode
   unfolding registersBefore
   mode-small h zero = h
-  mode-small h (suc n) =
-      let before = registersBefore image line mode n in
-      after-mode before (screenByte image line n (before .mode)) (mode-small h n)
+  mode-small h (suc n) = after-mode (registersBefore image line mode n) _ (mode-small h n)
 
 -- what holds of the cell at each column holds of each cell of the line
 pub each-of-line : (P : Cell → Type 0) (image : Image) (counter line mode : ℕ)

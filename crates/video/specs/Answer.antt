@@ -10,7 +10,7 @@ use Rattle.video.specs.Cell.{Cell, pixels, screenAddresses, characterAdd
 use Rattle.video.specs.Frame.{frameCells}
 use Rattle.video.specs.Line.{lineCells}
 use Rattle.video.specs.State.{withMode, afterFrame}
-use Rattle.video.specs.declared.address.ScreenAddress.{ScreenAddress}
+use Rattle.video.specs.declared.address.Address.{Address}
 use Rattle.video.specs.declared.answer.Painted.{Painted}
 use Rattle.video.specs.declared.state.State.{State}
 
@@ -68,7 +68,7 @@ lineContents memory state line output =
 abbrev pub addressRefusal : ℕ → ℕ → ℕ → ℕ
 addressRefusal line column mode = refusal (modeCheck mode ∷ lineCheck line ∷ columnCheck column ∷ [])
 
-abbrev pub addressAnswer : ℕ → ℕ → ℕ → ScreenAddress
+abbrev pub addressAnswer : ℕ → ℕ → ℕ → Address
 addressAnswer line column mode =
     let number = addressRefusal line column mode in
     record { status = number; address = ifDone number (screenAddress line column mode) 0 }

@@ -40,20 +40,20 @@ const ALTERNATE: u64 = 1;
 const DOUBLE_HEIGHT: u64 = 2;
 
 #[repr(C)]
-pub struct ScreenAddress {
+pub struct Address {
     pub status: u8,
     pub address: u16,
 }
 
 // Where the screen byte of a cell is. Refusals 3, 5, 6.
-pub fn screen_address(line: usize, column: usize, mode: u8) -> ScreenAddress
+pub fn screen_address(line: usize, column: usize, mode: u8) -> Address
     ensures { λ r. ⌜ r ≡ addressAnswer line column mode ⌝ }
 {
     let status = address_refusal(line, column, mode);
     if status != DONE {
-        return ScreenAddress { status, address: 0 };
+        return Address { status, address: 0 };
     }
-    ScreenAddress {
+    Address {
         status,
         address: Scanline::new(line).screen_address(column, wide(mode)) as u16,
     }

@@ -9,7 +9,7 @@ mod pattern;
 mod registers;
 mod state;
 
-pub use address::ScreenAddress;
+pub use address::Address;
 pub use address::screen_address;
 pub use answer::Painted;
 pub use frame::paint_frame;

@@ -4,7 +4,8 @@ use Rattle.video.proofs.address.address_refusal.Statement.{statement}
 use Rattle.video.proofs.address.address_refusal.Tie as tie
 
 returns : tie.Need-returns
-returns c = cc
+returns c =
+    rw (c .mode-refusal .ensures, c .before .line-refusal .ensures, c .before .before .column-refusal .ensures)
 
 pub address-refusal-spec : {M : Type 1} → statement M
 address-refusal-spec =

@@ -1,6 +1,6 @@
 -- `video::screen_address` meets its contract: refused or not by the status, and the address fits since it is below C000.
 -- Assumes nothing.
-use Prim.Native.Nat.{_<_}
+use Prim.Native.Nat.{ℕ, _<_}
 use mathlib.Core.Path.{_≡_, refl, sym, ap, _∙_}
 use native.Mathlib.Omega.{arith}
 use Rattle.machine.specs.Sizes.{columns, lines}
@@ -9,14 +9,20 @@ use Rattle.video.specs.Address.{screenAddress}
 use Rattle.video.specs.Answer.{addressRefusal}
 use Rattle.video.proofs.Accepted.{accepted-address}
 use Rattle.video.proofs.Addresses.{screen-below}
+use Rattle.video.specs.declared.address.Address.{Address}
 use Rattle.video.proofs.address.screen_address.Statement.{statement}
 use Rattle.video.proofs.address.screen_address.Tie as tie
+
+-- the answer with an address
+abbrev with-address : ℕ → ℕ → Address
+with-address status address = record { status = status; address = address }
 
 returns : tie.Need-returns
 returns c =
     let a = c .before .before .args in
-    cc (refused (addressRefusal (a .line) (a .column) (a .mode)) (screenAddress (a .line) (a .column) (a .mode)) 0
-    (λ e. c .if1 .taken (c .before .address-refusal .ensures ∙ e)))
+    let number = addressRefusal (a .line) (a .column) (a .mode) in
+    rw (c .before .address-refusal .ensures)
+    (ap (with-address number) (sym (refused number _ 0 (λ e. c .if1 .taken (c .before .address-refusal .ensures ∙ e)))))
 
 -- past the refusal, line and column are within their limits
 accepted : (c : tie.Else1) → (c .before .before .args .line < lines) × (c .before .before .args .column < columns)
@@ -44,12 +50,11 @@ cast-t9 c =
 
 returns-2 : tie.Need-returns-2
 returns-2 c =
+    let status = c .before .before .before .before .address-refusal in
     let a = c .before .before .before .before .before .args in
-    cc (
-      address c,
-      done (addressRefusal (a .line) (a .column) (a .mode)) (screenAddress (a .line) (a .column) (a .mode)) 0
-          (sym (c .before .before .before .before .address-refusal .ensures) ∙ c .before .before .before .if1 .left),
-    )
+    let number = addressRefusal (a .line) (a .column) (a .mode) in
+    rw (status .ensures, address c)
+    (ap (with-address number) (sym (done number _ 0 (sym (status .ensures) ∙ c .before .before .before .if1 .left))))
 
 pub screen-address-spec : {M : Type 1} → statement M
 screen-address-spec =

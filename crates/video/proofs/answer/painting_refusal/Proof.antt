@@ -4,7 +4,8 @@ use Rattle.video.proofs.answer.painting_refusal.Statement.{statement}
 use Rattle.video.proofs.answer.painting_refusal.Tie as tie
 
 returns : tie.Need-returns
-returns c = cc
+returns c =
+    rw (c .memory-refusal .ensures, c .before .output-refusal .ensures, c .before .before .mode-refusal .ensures, c .before .before .before .counter-refusal .ensures)
 
 pub painting-refusal-spec : {M : Type 1} → statement M
 painting-refusal-spec =

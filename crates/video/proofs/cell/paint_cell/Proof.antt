@@ -59,7 +59,7 @@ chosen : (d : tie.After-choose-address)
     d .choose-address .result ≡ patternAddress (now (a .memory)) (a .counter) (a .line .number) (a .column) (a .before)
 chosen d =
     let k = d .before .before .before .before .before in
-    cc (k .before .screen-address .ensures, d .before .before .is-bitmap .ensures, d .before .character-address .ensures, ap (λ (n : ℕ). n % 128) (read k))
+    rw (d .choose-address .ensures .0, d .before .character-address .ensures, d .before .before .is-bitmap .ensures, read k, k .before .screen-address .ensures)
 
 shared-slice-read-pattern : tie.Need-shared-slice-read-pattern
 shared-slice-read-pattern c =

@@ -70,7 +70,7 @@ loop2-holds : tie.Need-loop2-holds Inv-loop2 μ-loop2 Inv-loop μ-loop
 loop2-holds c =
     let here = c .before .loop in
     let place : cellLength * here .column + 0 ≡ cellLength * here .column = omega arith in
-    (omega arith, here .inv .1, rw place (simp append-nil (here .inv .2)))
+    (omega arith, here .inv .1, ap (λ (n : ℕ). take n (here .output)) place ∙ here .inv .2 ∙ sym (append-nil _))
 
 loop2-again : tie.Need-loop2-again Inv-loop2 μ-loop2 Inv-loop μ-loop
 loop2-again c =

@@ -30,7 +30,7 @@ cells start = let a = start .args in lineCells (now (a .memory)) (a .state .coun
 status : (k : tie.After-painting-refusal)
     → let a = k .before .before .before .before .args in
     k .painting-refusal .result ≡ lineRefusal (now (a .memory)) (a .state) (a .line) (now (a .output))
-status k = cc
+status k = rw (k .painting-refusal .ensures, k .before .line-refusal .ensures)
 
 returns : tie.Need-returns
 unfolding lineAnswer lineContents

@@ -40,7 +40,8 @@ returns : tie.Need-returns
 returns c =
     let start = c .before .before .before in
     let a = start .args in
-    cc (complemented-pixels (a .byte) (a .ink) (a .paper) (a .pattern) (start .pre .0) (start .pre .1))
+    rw (c .bytes-of .ensures, c .before .complement .ensures, c .before .before .spread .ensures)
+    (complemented-pixels (a .byte) (a .ink) (a .paper) (a .pattern) (start .pre .0) (start .pre .1))
 
 pub pixels-spec : {M : Type 1} → statement M
 pixels-spec =

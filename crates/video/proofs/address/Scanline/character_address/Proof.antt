@@ -5,7 +5,15 @@ use Rattle.video.proofs.address.Scanline.character_address.Statement.{s
 use Rattle.video.proofs.address.Scanline.character_address.Tie as tie
 
 returns : tie.Need-returns
-returns c = cc
+returns c =
+    rw (
+      c .choose-address3 .ensures .0,
+      c .before .bit2 .ensures,
+      c .before .before .choose-address2 .ensures .0,
+      c .before .before .before .bit .ensures,
+      c .before .before .before .before .choose-address .ensures .0,
+      c .before .before .before .before .before .is-hires .ensures,
+    )
 
 pub character-address-spec : {M : Type 1} → statement M
 character-address-spec =

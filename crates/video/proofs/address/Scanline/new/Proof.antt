@@ -5,7 +5,7 @@ use Rattle.video.proofs.address.Scanline.new.Statement.{statement}
 use Rattle.video.proofs.address.Scanline.new.Tie as tie
 
 returns : tie.Need-returns
-returns c = cc
+returns c = rw (c .choose-address .ensures .0)
 
 pub new-spec : {M : Type 1} → statement M
 new-spec =

@@ -1,9 +1,10 @@
 -- `video::address::Scanline::screen_address` meets its contract: the line's own starts are chosen from, and the address is below C000.
 -- Assumes nothing.
 use Prim.Native.Nat.{_+_, _<_}
+use mathlib.Core.Bool.{cond}
 use mathlib.Core.Path.{_≡_, ap}
 use native.Mathlib.Omega.{arith}
-use Rattle.video.specs.Address.{screenAddress}
+use Rattle.video.specs.Address.{isHires, screenAddress}
 use Rattle.video.proofs.Addresses.{screen-below}
 use Rattle.video.specs.declared.address.Scanline.{Scanline}
 use Rattle.video.proofs.address.Scanline.screen_address.Statement.{statement}
@@ -13,7 +14,8 @@ start-chosen : (c : tie.After-choose-address)
     → let a = c .before .before .args in c .choose-address .result + a .column ≡ screenAddress (a .self .number) (a .column) (a .mode)
 start-chosen c =
     let a = c .before .before .args in
-    cc (ap (λ (s : Scanline). s .text) (c .before .before .pre .1), ap (λ (s : Scanline). s .hires) (c .before .before .pre .1))
+    rw (c .choose-address .ensures .0, c .before .is-hires .ensures)
+    (ap (λ (s : Scanline). cond (isHires (a .mode)) (s .hires) (s .text) + a .column) (c .before .before .pre .1))
 
 below : (start : tie.Start) → let a = start .args in screenAddress (a .self .number) (a .column) (a .mode) < 0xC000
 below start = screen-below (start .args .self .number) (start .args .column) (start .args .mode) (start .pre .0 .0) (start .pre .0 .1)

@@ -71,6 +71,6 @@ module _ (image : Image) (state : State) where
         × (frame ≡ pixels (frameCells image state))
     all end =
         let e : line ≡ lines = omega arith in (
-          cc (e, mode-down image (state .counter) (state .mode) line, frame-uses-screen-bytes image state),
+          rw (here .path, here .screens, here .characters, e, mode-down image (state .counter) (state .mode) lines, frame-uses-screen-bytes image state),
           sym (take-all (lineLength * line) frame (omega arith)) ∙ here .filled ∙ ap (λ (n : ℕ). pixels (first n)) e,
         )

@@ -67,6 +67,6 @@ module _ (image : Image) (counter line mode : ℕ) where
         × (cells ≡ colours (lineCells image counter line mode))
     all end =
         let e : column ≡ columns = omega arith in (
-          cc (e, line-uses-screen-bytes image counter line mode),
+          rw (here .path, here .screens, here .characters, e, line-uses-screen-bytes image counter line mode),
           sym (take-all column cells (omega arith)) ∙ here .filled ∙ ap (λ (n : ℕ). colours (first n)) e,
         )

@@ -10,7 +10,7 @@ pixels-requires c κs = let start = c .before in
     (rw (c .shown-ink .ensures) (shown-most (a .self) (a .counter) (start .pre .0) (start .pre .1)), start .pre .1)
 
 returns : tie.Need-returns
-returns c = cc
+returns c = rw (c .pixels .ensures, c .before .shown-ink .ensures)
 
 pub paint-colours-spec : {M : Type 1} → statement M
 paint-colours-spec = tie.close (tie.spec (λ c κs. tt) pixels-requires returns)

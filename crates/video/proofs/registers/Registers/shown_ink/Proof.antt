@@ -5,7 +5,7 @@ use Rattle.video.proofs.registers.Registers.shown_ink.Statement.{statem
 use Rattle.video.proofs.registers.Registers.shown_ink.Tie as tie
 
 returns : tie.Need-returns
-returns c = cc
+returns c = rw (c .choose .ensures, c .before .both .ensures, c .before .before .bit .ensures)
 
 pub shown-ink-spec : {M : Type 1} → statement M
 shown-ink-spec = tie.close (tie.spec (λ c κs. search needs) (λ c κs. tt) (λ c κs. tt) returns)

@@ -1,4 +1,4 @@
-// The entry points of both halves under their C names. Each has the contract of the function that it calls.
+// Every entry point under its C name. Each has the contract of the function that it calls.
 ghost use mathlib.Core.Path.{_≡_};
 ghost use Rattle.video.specs.State.{freshState};
 ghost use Rattle.video.specs.Answer.{addressAnswer, lineAnswer, lineContents, frameAnswer, frameContents};
@@ -9,8 +9,8 @@ use bus::Access;
 use bus::Decoded;
 use bus::Latches;
 use bus::Written;
+use video::Address;
 use video::Painted;
-use video::ScreenAddress;
 use video::State;
 
 #[no_mangle]
@@ -21,7 +21,7 @@ pub extern "C" fn tropfenpfad_fresh_state() -> State
 }
 
 #[no_mangle]
-pub extern "C" fn tropfenpfad_screen_address(line: usize, column: usize, mode: u8) -> ScreenAddress
+pub extern "C" fn tropfenpfad_screen_address(line: usize, column: usize, mode: u8) -> Address
     ensures { λ r. ⌜ r ≡ addressAnswer line column mode ⌝ }
 {
     video::screen_address(line, column, mode)

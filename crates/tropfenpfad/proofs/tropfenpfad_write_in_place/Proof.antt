@@ -1,4 +1,4 @@
--- `reference::tropfenpfad_write_in_place` meets its contract, which is that of `bus::write_in_place`: a walk of its MIR by hand. Both references are lent on for good, and what the callee hands back is the answer.
+-- `tropfenpfad::tropfenpfad_write_in_place` meets its contract, which is that of `bus::write_in_place`: a walk of its MIR by hand. Both references are lent on for good, and what the callee hands back is the answer.
 -- Assumes nothing.
 use mathlib.Core.List.{[], _∷_}
 use mathlib.Core.Path.{refl}
@@ -33,10 +33,10 @@ use Rattle.bus.proofs.write_in_place as in-place
 use Rattle.bus.proofs.write_in_place.Symbol as in-place-def
 use Rattle.bus.proofs.write_in_place.Symbol.{name as #write-in-place}
 use Rattle.bus.proofs.write_in_place.Met as in-place-thm
-use Rattle.reference.proofs.exports.tropfenpfad_write_in_place.Key.{name as #exported}
-use Rattle.reference.proofs.exports.tropfenpfad_write_in_place as exported
-use Rattle.reference.proofs.exports.tropfenpfad_write_in_place.Statement as stated
-use Rattle.reference.proofs.exports.tropfenpfad_write_in_place.Code as code
+use Rattle.tropfenpfad.proofs.tropfenpfad_write_in_place.Key.{name as #exported}
+use Rattle.tropfenpfad.proofs.tropfenpfad_write_in_place as exported
+use Rattle.tropfenpfad.proofs.tropfenpfad_write_in_place.Statement as stated
+use Rattle.tropfenpfad.proofs.tropfenpfad_write_in_place.Code as code
 
 module _ {M : Type 1} (𝓤 : URA M) (H : Heap 𝓤) (A : Atoms 𝓤) (W : Given 𝓤 H A) (at-mem : Memory → SProp 𝓤) (run : Routine → Fun 𝓤) where
   -- the contract that the proof cites
