@@ -2,7 +2,7 @@
 -- Assumes nothing.
 use Prim.Native.Nat.{ℕ, zero, suc, _≤_, _<_}
 use mathlib.Core.Bool.{Bool, true, false, not, cond}
-use mathlib.Core.Path.{_≡_, refl, subst}
+use mathlib.Core.Path.{_≡_, refl, ap, subst, _∙_}
 use native.Mathlib.Omega.{arith}
 use lib.Dec.{T, eqb, leb, ltb}
 use borrow.Author.Tests.{eq-eqb, eqb-true, leb-false, ltb-false, not-false}
@@ -17,6 +17,10 @@ done (suc n) a b e = absurd (omega arith)
 pub refused : {A : Type 0} (n : ℕ) (a b : A) → (n ≡ 0 → ⊥) → ifDone n a b ≡ b
 refused zero a b e = absurd (e refl)
 refused (suc n) a b e = refl
+
+-- one link of a nest: a test before others
+pub nested : (applies : Bool) (number r later rest : ℕ) → r ≡ cond applies number later → later ≡ rest → r ≡ cond applies number rest
+nested applies number r later rest here after = here ∙ ap (cond applies number) after
 
 -- a test was passed: what it asks holds, and so the status is that of the tests after it
 pub record Passed (Fact : Type 0) (later : ℕ) : Type 0 where

@@ -1,11 +1,11 @@
 -- `video::address::address_refusal` meets its contract: the nest of tests is the list of checks.
 -- Assumes nothing.
+use Rattle.machine.proofs.Refusals.{nested}
 use Rattle.video.proofs.address.address_refusal.Statement.{statement}
 use Rattle.video.proofs.address.address_refusal.Tie as tie
 
 returns : tie.Need-returns
-returns c =
-    rw (c .mode-refusal .ensures, c .before .line-refusal .ensures, c .before .before .column-refusal .ensures)
+returns c = search nested
 
 pub address-refusal-spec : {M : Type 1} → statement M
 address-refusal-spec =

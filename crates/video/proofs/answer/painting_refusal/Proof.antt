@@ -1,11 +1,11 @@
 -- `video::answer::painting_refusal` meets its contract: the nest of tests is the list of checks.
 -- Assumes nothing.
+use Rattle.machine.proofs.Refusals.{nested}
 use Rattle.video.proofs.answer.painting_refusal.Statement.{statement}
 use Rattle.video.proofs.answer.painting_refusal.Tie as tie
 
 returns : tie.Need-returns
-returns c =
-    rw (c .memory-refusal .ensures, c .before .output-refusal .ensures, c .before .before .mode-refusal .ensures, c .before .before .before .counter-refusal .ensures)
+returns c = search nested
 
 pub painting-refusal-spec : {M : Type 1} → statement M
 painting-refusal-spec =
