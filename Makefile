@@ -12,5 +12,5 @@ test:
 	@tests/all
 
 bench:
-	@rt staticlib reference >&2
+	@rt staticlib tropfenpfad >&2
 	@cd host && cargo run --quiet --release --offline --bin bench

@@ -6,7 +6,7 @@
 use std::env;
 use std::path::{Path, PathBuf};
 
-const ARCHIVE: &str = "libreference.a";
+const ARCHIVE: &str = "libtropfenpfad.a";
 
 fn main() {
     println!("cargo::rerun-if-env-changed=TROPFENPFAD_LIB");
@@ -15,14 +15,14 @@ fn main() {
     println!("cargo::rerun-if-changed={}", archive.display());
     if !archive.is_file() {
         println!(
-            "cargo::error={} is missing. Run `rt staticlib reference` in the repository's root, \
+            "cargo::error={} is missing. Run `rt staticlib tropfenpfad` in the repository's root, \
              or name the directory that holds {ARCHIVE} in TROPFENPFAD_LIB.",
             archive.display()
         );
         return;
     }
     println!("cargo::rustc-link-search=native={}", directory.display());
-    println!("cargo::rustc-link-lib=static=reference");
+    println!("cargo::rustc-link-lib=static=tropfenpfad");
     // The header test links its C programs against the same archive.
     println!("cargo::rustc-env=TROPFENPFAD_ARCHIVE={}", archive.display());
 }

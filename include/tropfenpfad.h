@@ -3,10 +3,10 @@
  *
  * Two halves. The video half says where a screen byte stands and paints lines
  * and frames from a RAM image. The bus half says what answers at an address
- * and reads and writes over it. Link with libreference.a (x86-64 Linux), which
+ * and reads and writes over it. Link with libtropfenpfad.a (x86-64 Linux), which
  * needs the C library's memcpy and nothing else.
  *
- *   cc -std=c11 -I include program.c target/staticlib/libreference.a
+ *   cc -std=c11 -I include program.c target/staticlib/libtropfenpfad.a
  *
  * Every answer is a record by value. Where it has a status, that is 0 for done
  * or the number of a refusal, and the refusals below say the rest. No call
@@ -46,7 +46,7 @@ extern "C" {
 
 /* Bytes in a memory image: the machine's whole RAM, byte n at address n. ROM
  * and EPROM are not part of it. */
-#define TROPFENPFAD_MEMORY_LENGTH 65536
+#define TROPFENPFAD_IMAGE_LENGTH 65536
 
 /* Cells from left to right, six pixels each; columns are 0 to 39. */
 #define TROPFENPFAD_COLUMNS 40

@@ -2,7 +2,7 @@
  * Paints one frame of a RAM image from the fresh state and prints the state
  * and the counts that come with it.
  *
- *   cc -std=c11 -I ../include examples/paint.c ../target/staticlib/libreference.a -o paint
+ *   cc -std=c11 -I ../include examples/paint.c ../target/staticlib/libtropfenpfad.a -o paint
  *   ./paint image        or        ./paint < image
  */
 #include <stdio.h>
@@ -11,7 +11,7 @@
 #include "tropfenpfad.h"
 
 /* One byte more than an image, so that a longer input is seen to be longer. */
-static uint8_t memory[TROPFENPFAD_MEMORY_LENGTH + 1];
+static uint8_t memory[TROPFENPFAD_IMAGE_LENGTH + 1];
 static uint8_t frame[TROPFENPFAD_FRAME_LENGTH];
 
 int main(int count, char **arguments) {

@@ -5,7 +5,7 @@ use std::fmt::Write;
 
 use crate::images::step;
 use crate::model::Model;
-use crate::{Latches, State, FRAME_LENGTH, MEMORY_LENGTH};
+use crate::{Latches, State, FRAME_LENGTH, IMAGE_LENGTH};
 
 /// Where the generator and the digest start.
 const START: u64 = 0x9E37_79B9_7F4A_7C15;
@@ -44,7 +44,7 @@ pub fn lines() -> String {
         };
         text += &decode_line(&model, latches);
     }
-    let mut memory = vec![0; MEMORY_LENGTH];
+    let mut memory = vec![0; IMAGE_LENGTH];
     let mut frame = vec![0; FRAME_LENGTH];
     for image in 0..IMAGES {
         text += &image_line(&model, image, &mut memory, &mut frame);

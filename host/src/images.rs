@@ -1,6 +1,6 @@
 //! Generated memory images, ten kinds, each made from a seed.
 
-use crate::MEMORY_LENGTH;
+use crate::IMAGE_LENGTH;
 
 /// The xorshift64 generator. A seed of 0 is taken as 1, since 0 would stay 0.
 #[derive(Clone)]
@@ -115,7 +115,7 @@ pub fn generate(kind: Kind, seed: u64, memory: &mut [u8]) {
 
 /// A new image.
 pub fn image(kind: Kind, seed: u64) -> Vec<u8> {
-    let mut memory = vec![0; MEMORY_LENGTH];
+    let mut memory = vec![0; IMAGE_LENGTH];
     generate(kind, seed, &mut memory);
     memory
 }

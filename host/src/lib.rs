@@ -5,7 +5,7 @@
 //! on a refusal nothing that was lent has changed.
 //!
 //! ```
-//! let memory = vec![0; tropfenpfad::MEMORY_LENGTH];
+//! let memory = vec![0; tropfenpfad::IMAGE_LENGTH];
 //! let mut frame = vec![0xFF; tropfenpfad::FRAME_LENGTH];
 //! let painting = tropfenpfad::paint_frame(&memory, tropfenpfad::fresh_state(), &mut frame)?;
 //! assert_eq!((painting.screen, painting.character), (8960, 0));
@@ -35,7 +35,7 @@ pub use refusal::Refusal;
 use refusal::check;
 
 /// Bytes in a memory image.
-pub const MEMORY_LENGTH: usize = 0x1_0000;
+pub const IMAGE_LENGTH: usize = 0x1_0000;
 /// Cells in a line.
 pub const COLUMNS: usize = 40;
 /// Lines in a frame.

@@ -10,12 +10,12 @@ mod decoder;
 mod painter;
 
 use crate::ffi::{Access, Address, Decoded, Latches, Painted, State, Written};
-use crate::{COLUMNS, FRAME_LENGTH, LINES, LINE_LENGTH, MEMORY_LENGTH};
+use crate::{COLUMNS, FRAME_LENGTH, IMAGE_LENGTH, LINES, LINE_LENGTH};
 use decoder::Decoder;
 use painter::Painter;
 
 /// The RAM image, once its length is known.
-type Memory = [u8; MEMORY_LENGTH];
+type Memory = [u8; IMAGE_LENGTH];
 
 /// The model, with its tables.
 pub struct Model {
@@ -215,7 +215,7 @@ fn first_of(tests: &[Test]) -> u8 {
 }
 
 fn of_memory(memory: &[u8]) -> Test {
-    (1, memory.len() != MEMORY_LENGTH)
+    (1, memory.len() != IMAGE_LENGTH)
 }
 
 fn of_output(output: &[u8], length: usize) -> Test {

@@ -2,7 +2,7 @@
 
 use tropfenpfad::{
     decode, fresh_state, paint_frame, paint_line, screen_address, Latches, Refusal, State, Target,
-    FRAME_LENGTH, KIND_MICRODISC, LINE_LENGTH, MEMORY_LENGTH,
+    FRAME_LENGTH, IMAGE_LENGTH, KIND_MICRODISC, LINE_LENGTH,
 };
 
 const TEXT: u8 = 2;
@@ -10,7 +10,7 @@ const HIRES: u8 = 6;
 
 /// An image of zeros but for some bytes.
 fn memory_with(bytes: &[(usize, u8)]) -> Vec<u8> {
-    let mut memory = vec![0; MEMORY_LENGTH];
+    let mut memory = vec![0; IMAGE_LENGTH];
     for &(address, byte) in bytes {
         memory[address] = byte;
     }

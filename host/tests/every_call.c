@@ -6,7 +6,7 @@
 
 #include "tropfenpfad.h"
 
-static uint8_t memory[TROPFENPFAD_MEMORY_LENGTH];
+static uint8_t memory[TROPFENPFAD_IMAGE_LENGTH];
 static uint8_t frame[TROPFENPFAD_FRAME_LENGTH];
 
 static void painted(const char *name, tropfenpfad_painted answer) {

@@ -9,16 +9,16 @@ use common::pages::{Against, Pages, SIDES};
 use tropfenpfad::ffi::{self, Access, Latches, Painted, State, Written};
 use tropfenpfad::images::{self, Kind, Xorshift};
 use tropfenpfad::model::Model;
-use tropfenpfad::{FRAME_LENGTH, LINES, LINE_LENGTH, MEMORY_LENGTH};
+use tropfenpfad::{FRAME_LENGTH, IMAGE_LENGTH, LINES, LINE_LENGTH};
 
 const MEMORY_LENGTHS: [usize; 7] = [
-    MEMORY_LENGTH,
+    IMAGE_LENGTH,
     0,
     1,
     4096,
-    MEMORY_LENGTH - 1,
-    MEMORY_LENGTH + 1,
-    MEMORY_LENGTH + 4096,
+    IMAGE_LENGTH - 1,
+    IMAGE_LENGTH + 1,
+    IMAGE_LENGTH + 4096,
 ];
 const LINE_LENGTHS: [usize; 6] = [LINE_LENGTH, 0, 1, LINE_LENGTH - 1, LINE_LENGTH + 1, 4096];
 const FRAME_LENGTHS: [usize; 6] = [
@@ -27,7 +27,7 @@ const FRAME_LENGTHS: [usize; 6] = [
     LINE_LENGTH,
     FRAME_LENGTH - 1,
     FRAME_LENGTH + 1,
-    MEMORY_LENGTH,
+    IMAGE_LENGTH,
 ];
 const STATES: [State; 5] = [
     State {

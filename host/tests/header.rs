@@ -9,8 +9,8 @@ use std::process::{Command, Output, Stdio};
 
 use tropfenpfad::ffi::{Access, Address, Decoded, Painted, Written};
 use tropfenpfad::{
-    calls, Latches, Refusal, State, Target, COLUMNS, FRAME_LENGTH, KIND_JASMIN, KIND_MICRODISC,
-    KIND_NONE, LINES, LINE_LENGTH, MEMORY_LENGTH,
+    calls, Latches, Refusal, State, Target, COLUMNS, FRAME_LENGTH, IMAGE_LENGTH, KIND_JASMIN,
+    KIND_MICRODISC, KIND_NONE, LINES, LINE_LENGTH,
 };
 
 const WARNINGS: [&str; 4] = ["-Wall", "-Wextra", "-Wpedantic", "-Werror"];
@@ -108,7 +108,7 @@ fn record_checks(checks: &mut Checks) {
 }
 
 fn constant_checks(checks: &mut Checks) {
-    checks.equal("TROPFENPFAD_MEMORY_LENGTH", MEMORY_LENGTH);
+    checks.equal("TROPFENPFAD_IMAGE_LENGTH", IMAGE_LENGTH);
     checks.equal("TROPFENPFAD_COLUMNS", COLUMNS);
     checks.equal("TROPFENPFAD_LINES", LINES);
     checks.equal("TROPFENPFAD_LINE_LENGTH", LINE_LENGTH);
@@ -209,9 +209,7 @@ fn a_call_from_c_that_answers_otherwise() {
 
 /// What tests/every_call.c prints, by the same calls from Rust.
 fn every_call() -> String {
-    let mut memory: Vec<u8> = (0..MEMORY_LENGTH)
-        .map(|i| (i * 7 + i / 251) as u8)
-        .collect();
+    let mut memory: Vec<u8> = (0..IMAGE_LENGTH).map(|i| (i * 7 + i / 251) as u8).collect();
     video(&memory) + &bus(&mut memory)
 }
 
@@ -241,7 +239,7 @@ fn video(memory: &[u8]) -> String {
         let answer = calls::paint_line(memory, other, line, &mut frame[..LINE_LENGTH]);
         text += &painted("paint_line", answer, &frame);
     }
-    for length in [MEMORY_LENGTH, 7] {
+    for length in [IMAGE_LENGTH, 7] {
         let answer = calls::paint_frame(&memory[..length], other, &mut frame);
         text += &painted("paint_frame", answer, &frame);
     }

@@ -7,7 +7,7 @@ use std::collections::HashSet;
 use common::{all_states, assert_same_bytes, fingerprint, start_states, COUNTERS, MODES};
 use tropfenpfad::images::{self, Kind, Xorshift};
 use tropfenpfad::model::Model;
-use tropfenpfad::{calls, planes, State, COLUMNS, FRAME_LENGTH, LINES, LINE_LENGTH, MEMORY_LENGTH};
+use tropfenpfad::{calls, planes, State, COLUMNS, FRAME_LENGTH, IMAGE_LENGTH, LINES, LINE_LENGTH};
 
 /// Seeds for each kind and each start state.
 const SEEDS: u64 = 80;
@@ -58,7 +58,7 @@ impl Bench {
 #[test]
 fn a_frame_painted_otherwise() {
     let mut bench = Bench::new();
-    let mut memory = vec![0; MEMORY_LENGTH];
+    let mut memory = vec![0; IMAGE_LENGTH];
     let mut different = HashSet::new();
     let mut paintings = 0;
     for kind in Kind::ALL {

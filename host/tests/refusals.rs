@@ -14,7 +14,7 @@ use common::fresh_of_kind;
 use tropfenpfad::ffi::{Access, Address, Decoded, Painted, Written};
 use tropfenpfad::images::Xorshift;
 use tropfenpfad::model::Model;
-use tropfenpfad::{calls, Latches, Refusal, State, FRAME_LENGTH, LINE_LENGTH, MEMORY_LENGTH};
+use tropfenpfad::{calls, Latches, Refusal, State, FRAME_LENGTH, IMAGE_LENGTH, LINE_LENGTH};
 
 /// Values to hand over, right ones and wrong ones.
 struct Values<T: 'static> {
@@ -31,15 +31,15 @@ impl<T: Copy> Values<T> {
 }
 
 const MEMORIES: Values<usize> = Values {
-    right: &[MEMORY_LENGTH],
+    right: &[IMAGE_LENGTH],
     wrong: &[
         0,
         1,
         LINE_LENGTH,
         FRAME_LENGTH,
-        MEMORY_LENGTH - 1,
-        MEMORY_LENGTH + 1,
-        2 * MEMORY_LENGTH,
+        IMAGE_LENGTH - 1,
+        IMAGE_LENGTH + 1,
+        2 * IMAGE_LENGTH,
     ],
 };
 const LINE_OUTPUTS: Values<usize> = Values {
@@ -63,7 +63,7 @@ const FRAME_OUTPUTS: Values<usize> = Values {
         FRAME_LENGTH - LINE_LENGTH,
         FRAME_LENGTH - 1,
         FRAME_LENGTH + 1,
-        MEMORY_LENGTH,
+        IMAGE_LENGTH,
     ],
 };
 const MODES: Values<u8> = Values {
@@ -93,7 +93,7 @@ const ADDRESSES: [u16; 8] = [
 
 /// Random bytes, of the greatest length that is handed over.
 fn random_bytes() -> Vec<u8> {
-    let mut bytes = vec![0; 2 * MEMORY_LENGTH];
+    let mut bytes = vec![0; 2 * IMAGE_LENGTH];
     Xorshift::new(7).fill(&mut bytes);
     bytes
 }
@@ -455,7 +455,7 @@ fn a_memory_length_taken_wrongly() {
             calls::write(lent, latches, 0, 0).status,
             calls::write_in_place(lent, &mut latches.clone(), 0, 0).status,
         ];
-        let number = u8::from(length != MEMORY_LENGTH);
+        let number = u8::from(length != IMAGE_LENGTH);
         assert_eq!(statuses, [number; 5], "{length} bytes of memory");
         tally.count_all(&statuses);
     }
@@ -464,7 +464,7 @@ fn a_memory_length_taken_wrongly() {
 
 #[test]
 fn an_output_length_taken_wrongly() {
-    let memory = &random_bytes()[..MEMORY_LENGTH];
+    let memory = &random_bytes()[..IMAGE_LENGTH];
     let mut output = random_bytes();
     let state = tropfenpfad::fresh_state();
     let mut tally = Tally::default();
@@ -481,7 +481,7 @@ fn an_output_length_taken_wrongly() {
 
 #[test]
 fn a_state_taken_wrongly() {
-    let memory = &random_bytes()[..MEMORY_LENGTH];
+    let memory = &random_bytes()[..IMAGE_LENGTH];
     let mut output = [0; LINE_LENGTH];
     let mut tally = Tally::default();
     for pair in 0..=u16::MAX {
@@ -497,7 +497,7 @@ fn a_state_taken_wrongly() {
 
 #[test]
 fn a_line_or_column_taken_wrongly() {
-    let memory = &random_bytes()[..MEMORY_LENGTH];
+    let memory = &random_bytes()[..IMAGE_LENGTH];
     let mut output = [0; LINE_LENGTH];
     let state = tropfenpfad::fresh_state();
     let mut tally = Tally::default();
@@ -514,7 +514,7 @@ fn a_line_or_column_taken_wrongly() {
 #[test]
 fn a_kind_taken_wrongly_by_some_call() {
     let mut memory = random_bytes();
-    let memory = &mut memory[..MEMORY_LENGTH];
+    let memory = &mut memory[..IMAGE_LENGTH];
     let mut tally = Tally::default();
     for kind in 0..=u8::MAX {
         let latches = fresh_of_kind(kind);
@@ -557,7 +557,7 @@ fn fresh_records_that_are_not_fresh() {
 fn a_result_that_hides_the_number() {
     let state = tropfenpfad::fresh_state();
     let latches = fresh_of_kind(3);
-    let mut memory = vec![0; MEMORY_LENGTH];
+    let mut memory = vec![0; IMAGE_LENGTH];
     let mut frame = vec![0; FRAME_LENGTH];
     let mode = State { mode: 8, ..state };
     let counter = State {

@@ -6,7 +6,7 @@ use common::assert_same_bytes;
 use common::bus::{random_latches, Access, Bus};
 use tropfenpfad::images::{self, Kind, Xorshift};
 use tropfenpfad::model::Model;
-use tropfenpfad::{calls, paint_frame, State, FRAME_LENGTH, MEMORY_LENGTH};
+use tropfenpfad::{calls, paint_frame, State, FRAME_LENGTH, IMAGE_LENGTH};
 
 /// Frames in each run.
 const FRAMES: usize = 500;
@@ -86,7 +86,7 @@ fn a_run_of_frames_that_drifts() {
 /// A text screen of full blocks that the very last cell of the frame leaves in hires, over a
 /// hires screen of single pixels.
 fn image_that_ends_in_hires() -> Vec<u8> {
-    let mut memory = vec![0; MEMORY_LENGTH];
+    let mut memory = vec![0; IMAGE_LENGTH];
     memory[0xA000..0xBF40].fill(0x60);
     memory[0xB400..0xBC00].fill(0x3F);
     memory[0xBB80..0xBFE0].fill(0x41);
@@ -174,7 +174,7 @@ fn a_mode_written_over_the_bus_that_comes_late() {
 
 #[test]
 fn a_flash_phase_that_slips() {
-    let mut memory = vec![0x0C; MEMORY_LENGTH];
+    let mut memory = vec![0x0C; IMAGE_LENGTH];
     memory[0xB400..0xBB80].fill(0x3F);
     memory[0xBB81] = 0x41;
     let mut frame = vec![0; FRAME_LENGTH];

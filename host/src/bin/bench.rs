@@ -7,7 +7,7 @@ use std::time::{Duration, Instant};
 
 use tropfenpfad::images::{self, Kind, Xorshift};
 use tropfenpfad::model::Model;
-use tropfenpfad::{calls, planes, Latches, State, FRAME_LENGTH, MEMORY_LENGTH};
+use tropfenpfad::{calls, planes, Latches, State, FRAME_LENGTH, IMAGE_LENGTH};
 
 const ROUNDS: usize = 40;
 const IMAGES: usize = 32;
@@ -197,7 +197,7 @@ fn time_decodes(model: &Model, addresses: &[u16]) -> [Duration; 2] {
 }
 
 fn time_accesses(model: &Model, addresses: &[u16]) -> [Duration; 2] {
-    let mut first = vec![0; MEMORY_LENGTH];
+    let mut first = vec![0; IMAGE_LENGTH];
     let mut second = first.clone();
     let times = best([
         &mut || {
