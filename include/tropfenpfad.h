@@ -84,27 +84,7 @@ extern "C" {
 #define TROPFENPFAD_REFUSED_KIND    7 /* the latches' kind is above 2 */
 
 /* ------------------------------------------------------------------------- */
-/* Controller kinds: the values of `kind`                                    */
-/* ------------------------------------------------------------------------- */
-
-#define TROPFENPFAD_KIND_NONE      0 /* no controller: C000 to FFFF is the BASIC ROM */
-#define TROPFENPFAD_KIND_MICRODISC 1 /* one latch, at 0314 */
-#define TROPFENPFAD_KIND_JASMIN    2 /* two latches, at 03FA and 03FB */
-
-/* ------------------------------------------------------------------------- */
-/* Targets: the values of `target`, each with the meaning of its `number`    */
-/* ------------------------------------------------------------------------- */
-
-#define TROPFENPFAD_TARGET_RAM         0 /* RAM below C000; number: the address */
-#define TROPFENPFAD_TARGET_VIA         1 /* the 6522; number: its register, 0 to 15 */
-#define TROPFENPFAD_TARGET_CONTROLLER  2 /* disc controller; number: address - 0300 */
-#define TROPFENPFAD_TARGET_BASIC_ROM   3 /* BASIC ROM; number: address - C000 */
-#define TROPFENPFAD_TARGET_OVERLAY_RAM 4 /* RAM from C000 on; number: the address */
-#define TROPFENPFAD_TARGET_BOOT_EPROM  5 /* boot EPROM; number: address - C000 */
-#define TROPFENPFAD_TARGET_UNASSIGNED  6 /* nothing is there; number: address - 0300 */
-
-/* ------------------------------------------------------------------------- */
-/* Records                                                                   */
+/* Video                                                                     */
 /* ------------------------------------------------------------------------- */
 
 /* What video carries from cell to cell, line to line and frame to frame. */
@@ -126,41 +106,6 @@ typedef struct {
   uint8_t status;   /* TROPFENPFAD_DONE or a refusal */
   uint16_t address; /* where the cell's screen byte stands, A000 to BFDF */
 } tropfenpfad_address;
-
-/* Which controller is fitted and what was last written to its latches. */
-typedef struct {
-  uint8_t kind;   /* TROPFENPFAD_KIND_...; above 2 is refused where it is used */
-  uint8_t first;  /* Microdisc: written at 0314; Jasmin: written at 03FA; any byte */
-  uint8_t second; /* Jasmin: written at 03FB; any byte */
-} tropfenpfad_latches;
-
-/* The answer of decode. */
-typedef struct {
-  uint8_t status;  /* TROPFENPFAD_DONE or a refusal */
-  uint8_t target;  /* TROPFENPFAD_TARGET_... */
-  uint16_t number; /* which of the target's bytes or registers */
-} tropfenpfad_decoded;
-
-/* The answer of read and of write_in_place. */
-typedef struct {
-  uint8_t status;  /* TROPFENPFAD_DONE or a refusal */
-  uint8_t target;  /* TROPFENPFAD_TARGET_... */
-  uint16_t number; /* which of the target's bytes or registers */
-  uint8_t byte;    /* the byte read; 0 from anything but RAM, and for a write */
-} tropfenpfad_access;
-
-/* The answer of write. */
-typedef struct {
-  uint8_t status;              /* TROPFENPFAD_DONE or a refusal */
-  uint8_t target;              /* TROPFENPFAD_TARGET_... */
-  uint16_t number;             /* which of the target's bytes or registers */
-  uint8_t byte;                /* always 0: a write reads nothing */
-  tropfenpfad_latches latches; /* for the next access; as handed in on a refusal */
-} tropfenpfad_written;
-
-/* ------------------------------------------------------------------------- */
-/* Video                                                                     */
-/* ------------------------------------------------------------------------- */
 
 /* The state to begin with: mode 2 (text, 50 Hz), counter 0. Refuses nothing. */
 tropfenpfad_state tropfenpfad_fresh_state(void);
@@ -231,6 +176,51 @@ tropfenpfad_painted tropfenpfad_paint_frame(const uint8_t *memory, size_t memory
 /* ------------------------------------------------------------------------- */
 /* Bus                                                                       */
 /* ------------------------------------------------------------------------- */
+
+/* Controller kinds: the values of `kind`. */
+#define TROPFENPFAD_KIND_NONE      0 /* no controller: C000 to FFFF is the BASIC ROM */
+#define TROPFENPFAD_KIND_MICRODISC 1 /* one latch, at 0314 */
+#define TROPFENPFAD_KIND_JASMIN    2 /* two latches, at 03FA and 03FB */
+
+/* Targets: the values of `target`, each with the meaning of its `number`. */
+#define TROPFENPFAD_TARGET_RAM         0 /* RAM below C000; number: the address */
+#define TROPFENPFAD_TARGET_VIA         1 /* the 6522; number: its register, 0 to 15 */
+#define TROPFENPFAD_TARGET_CONTROLLER  2 /* disc controller; number: address - 0300 */
+#define TROPFENPFAD_TARGET_BASIC_ROM   3 /* BASIC ROM; number: address - C000 */
+#define TROPFENPFAD_TARGET_OVERLAY_RAM 4 /* RAM from C000 on; number: the address */
+#define TROPFENPFAD_TARGET_BOOT_EPROM  5 /* boot EPROM; number: address - C000 */
+#define TROPFENPFAD_TARGET_UNASSIGNED  6 /* nothing is there; number: address - 0300 */
+
+/* Which controller is fitted and what was last written to its latches. */
+typedef struct {
+  uint8_t kind;   /* TROPFENPFAD_KIND_...; above 2 is refused where it is used */
+  uint8_t first;  /* Microdisc: written at 0314; Jasmin: written at 03FA; any byte */
+  uint8_t second; /* Jasmin: written at 03FB; any byte */
+} tropfenpfad_latches;
+
+/* The answer of decode. */
+typedef struct {
+  uint8_t status;  /* TROPFENPFAD_DONE or a refusal */
+  uint8_t target;  /* TROPFENPFAD_TARGET_... */
+  uint16_t number; /* which of the target's bytes or registers */
+} tropfenpfad_decoded;
+
+/* The answer of read and of write_in_place. */
+typedef struct {
+  uint8_t status;  /* TROPFENPFAD_DONE or a refusal */
+  uint8_t target;  /* TROPFENPFAD_TARGET_... */
+  uint16_t number; /* which of the target's bytes or registers */
+  uint8_t byte;    /* the byte read; 0 from anything but RAM, and for a write */
+} tropfenpfad_access;
+
+/* The answer of write. */
+typedef struct {
+  uint8_t status;              /* TROPFENPFAD_DONE or a refusal */
+  uint8_t target;              /* TROPFENPFAD_TARGET_... */
+  uint16_t number;             /* which of the target's bytes or registers */
+  uint8_t byte;                /* always 0: a write reads nothing */
+  tropfenpfad_latches latches; /* for the next access; as handed in on a refusal */
+} tropfenpfad_written;
 
 /* The latches to begin with: kind 0 (no controller), both latch bytes 0. The
  * caller sets the kind of the controller that is fitted; the calls that use
