@@ -3,10 +3,11 @@
  *
  * Two halves. The video half says where a screen byte stands and paints lines
  * and frames from a RAM image. The bus half says what answers at an address
- * and reads and writes over it. Link with libtropfenpfad.a (x86-64 Linux), which
- * needs the C library's memcpy and nothing else.
+ * and reads and writes over it. The archive is libtropfenpfad.a (x86-64 Linux);
+ * it needs the C library's memcpy and nothing else. `make lib` puts it into
+ * target/lib and this header into target/include. The example is compiled so:
  *
- *   cc -std=c11 -I include program.c target/staticlib/libtropfenpfad.a
+ *   cc -std=c11 -Itarget/include host/tropfenpfad/examples/paint.c -Ltarget/lib -ltropfenpfad -o target/paint
  *
  * Every answer is a record by value. Where it has a status, that is 0 for done
  * or the number of a refusal, and the refusals below say the rest. No call
