@@ -11,7 +11,7 @@ use crate::cc::{archive, build, scratch, succeed, HEADER};
 
 const EXAMPLE: &str = "host/tropfenpfad/examples/paint.c";
 /// Where the command stands that compiles the example after `make lib`.
-const TOLD_IN: [&str; 2] = [HEADER, EXAMPLE];
+const TOLD_IN: [&str; 3] = [HEADER, EXAMPLE, "README.md"];
 
 /// The command that a file tells.
 fn command_in(file: &str) -> String {
