@@ -3,10 +3,11 @@
  *
  * Two halves. The video half says where a screen byte stands and paints lines
  * and frames from a RAM image. The bus half says what answers at an address
- * and reads and writes over it. Link with libreference.a (x86-64 Linux), which
- * needs the C library's memcpy and nothing else.
+ * and reads and writes over it. The archive is libtropfenpfad.a (x86-64 Linux);
+ * it needs the C library's memcpy and nothing else. `make lib` puts it into
+ * target/lib and this header into target/include. The example is compiled so:
  *
- *   cc -std=c11 -I include program.c target/staticlib/libreference.a
+ *   cc -std=c11 -Itarget/include host/tropfenpfad/examples/paint.c -Ltarget/lib -ltropfenpfad -o target/paint
  *
  * Every answer is a record by value. Where it has a status, that is 0 for done
  * or the number of a refusal, and the refusals below say the rest. No call
@@ -46,7 +47,7 @@ extern "C" {
 
 /* Bytes in a memory image: the machine's whole RAM, byte n at address n. ROM
  * and EPROM are not part of it. */
-#define TROPFENPFAD_MEMORY_LENGTH 65536
+#define TROPFENPFAD_IMAGE_LENGTH 65536
 
 /* Cells from left to right, six pixels each; columns are 0 to 39. */
 #define TROPFENPFAD_COLUMNS 40
@@ -84,27 +85,7 @@ extern "C" {
 #define TROPFENPFAD_REFUSED_KIND    7 /* the latches' kind is above 2 */
 
 /* ------------------------------------------------------------------------- */
-/* Controller kinds: the values of `kind`                                    */
-/* ------------------------------------------------------------------------- */
-
-#define TROPFENPFAD_KIND_NONE      0 /* no controller: C000 to FFFF is the BASIC ROM */
-#define TROPFENPFAD_KIND_MICRODISC 1 /* one latch, at 0314 */
-#define TROPFENPFAD_KIND_JASMIN    2 /* two latches, at 03FA and 03FB */
-
-/* ------------------------------------------------------------------------- */
-/* Targets: the values of `target`, each with the meaning of its `number`    */
-/* ------------------------------------------------------------------------- */
-
-#define TROPFENPFAD_TARGET_RAM         0 /* RAM below C000; number: the address */
-#define TROPFENPFAD_TARGET_VIA         1 /* the 6522; number: its register, 0 to 15 */
-#define TROPFENPFAD_TARGET_CONTROLLER  2 /* disc controller; number: address - 0300 */
-#define TROPFENPFAD_TARGET_BASIC_ROM   3 /* BASIC ROM; number: address - C000 */
-#define TROPFENPFAD_TARGET_OVERLAY_RAM 4 /* RAM from C000 on; number: the address */
-#define TROPFENPFAD_TARGET_BOOT_EPROM  5 /* boot EPROM; number: address - C000 */
-#define TROPFENPFAD_TARGET_UNASSIGNED  6 /* nothing is there; number: address - 0300 */
-
-/* ------------------------------------------------------------------------- */
-/* Records                                                                   */
+/* Video                                                                     */
 /* ------------------------------------------------------------------------- */
 
 /* What video carries from cell to cell, line to line and frame to frame. */
@@ -126,41 +107,6 @@ typedef struct {
   uint8_t status;   /* TROPFENPFAD_DONE or a refusal */
   uint16_t address; /* where the cell's screen byte stands, A000 to BFDF */
 } tropfenpfad_address;
-
-/* Which controller is fitted and what was last written to its latches. */
-typedef struct {
-  uint8_t kind;   /* TROPFENPFAD_KIND_...; above 2 is refused where it is used */
-  uint8_t first;  /* Microdisc: written at 0314; Jasmin: written at 03FA; any byte */
-  uint8_t second; /* Jasmin: written at 03FB; any byte */
-} tropfenpfad_latches;
-
-/* The answer of decode. */
-typedef struct {
-  uint8_t status;  /* TROPFENPFAD_DONE or a refusal */
-  uint8_t target;  /* TROPFENPFAD_TARGET_... */
-  uint16_t number; /* which of the target's bytes or registers */
-} tropfenpfad_decoded;
-
-/* The answer of read and of write_in_place. */
-typedef struct {
-  uint8_t status;  /* TROPFENPFAD_DONE or a refusal */
-  uint8_t target;  /* TROPFENPFAD_TARGET_... */
-  uint16_t number; /* which of the target's bytes or registers */
-  uint8_t byte;    /* the byte read; 0 from anything but RAM, and for a write */
-} tropfenpfad_access;
-
-/* The answer of write. */
-typedef struct {
-  uint8_t status;              /* TROPFENPFAD_DONE or a refusal */
-  uint8_t target;              /* TROPFENPFAD_TARGET_... */
-  uint16_t number;             /* which of the target's bytes or registers */
-  uint8_t byte;                /* always 0: a write reads nothing */
-  tropfenpfad_latches latches; /* for the next access; as handed in on a refusal */
-} tropfenpfad_written;
-
-/* ------------------------------------------------------------------------- */
-/* Video                                                                     */
-/* ------------------------------------------------------------------------- */
 
 /* The state to begin with: mode 2 (text, 50 Hz), counter 0. Refuses nothing. */
 tropfenpfad_state tropfenpfad_fresh_state(void);
@@ -231,6 +177,51 @@ tropfenpfad_painted tropfenpfad_paint_frame(const uint8_t *memory, size_t memory
 /* ------------------------------------------------------------------------- */
 /* Bus                                                                       */
 /* ------------------------------------------------------------------------- */
+
+/* Controller kinds: the values of `kind`. */
+#define TROPFENPFAD_KIND_NONE      0 /* no controller: C000 to FFFF is the BASIC ROM */
+#define TROPFENPFAD_KIND_MICRODISC 1 /* one latch, at 0314 */
+#define TROPFENPFAD_KIND_JASMIN    2 /* two latches, at 03FA and 03FB */
+
+/* Targets: the values of `target`, each with the meaning of its `number`. */
+#define TROPFENPFAD_TARGET_RAM         0 /* RAM below C000; number: the address */
+#define TROPFENPFAD_TARGET_VIA         1 /* the 6522; number: its register, 0 to 15 */
+#define TROPFENPFAD_TARGET_CONTROLLER  2 /* disc controller; number: address - 0300 */
+#define TROPFENPFAD_TARGET_BASIC_ROM   3 /* BASIC ROM; number: address - C000 */
+#define TROPFENPFAD_TARGET_OVERLAY_RAM 4 /* RAM from C000 on; number: the address */
+#define TROPFENPFAD_TARGET_BOOT_EPROM  5 /* boot EPROM; number: address - C000 */
+#define TROPFENPFAD_TARGET_UNASSIGNED  6 /* nothing is there; number: address - 0300 */
+
+/* Which controller is fitted and what was last written to its latches. */
+typedef struct {
+  uint8_t kind;   /* TROPFENPFAD_KIND_...; above 2 is refused where it is used */
+  uint8_t first;  /* Microdisc: written at 0314; Jasmin: written at 03FA; any byte */
+  uint8_t second; /* Jasmin: written at 03FB; any byte */
+} tropfenpfad_latches;
+
+/* The answer of decode. */
+typedef struct {
+  uint8_t status;  /* TROPFENPFAD_DONE or a refusal */
+  uint8_t target;  /* TROPFENPFAD_TARGET_... */
+  uint16_t number; /* which of the target's bytes or registers */
+} tropfenpfad_decoded;
+
+/* The answer of read and of write_in_place. */
+typedef struct {
+  uint8_t status;  /* TROPFENPFAD_DONE or a refusal */
+  uint8_t target;  /* TROPFENPFAD_TARGET_... */
+  uint16_t number; /* which of the target's bytes or registers */
+  uint8_t byte;    /* the byte read; 0 from anything but RAM, and for a write */
+} tropfenpfad_access;
+
+/* The answer of write. */
+typedef struct {
+  uint8_t status;              /* TROPFENPFAD_DONE or a refusal */
+  uint8_t target;              /* TROPFENPFAD_TARGET_... */
+  uint16_t number;             /* which of the target's bytes or registers */
+  uint8_t byte;                /* always 0: a write reads nothing */
+  tropfenpfad_latches latches; /* for the next access; as handed in on a refusal */
+} tropfenpfad_written;
 
 /* The latches to begin with: kind 0 (no controller), both latch bytes 0. The
  * caller sets the kind of the controller that is fitted; the calls that use

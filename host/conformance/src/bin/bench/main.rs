@@ -1,0 +1,21 @@
+//! How fast the library is beside the models, as a page in Markdown. Contestants take turns in one
+//! run, and each figure is the best of several.
+
+mod bus;
+mod frames;
+mod growth;
+mod head;
+mod row;
+mod table;
+mod video;
+
+use row::Rows;
+
+fn main() {
+    head::print();
+    frames::print();
+    let rows = Rows::begin();
+    video::rows(&rows);
+    bus::rows(&rows);
+    growth::print();
+}

@@ -1,0 +1,8 @@
+//! The C calls over slices and records: each answer is what C gives, status included, since on a
+//! refusal the rest of the answer is promised too.
+
+mod bus;
+mod video;
+
+pub use bus::{decode, fresh_latches, read, write, write_in_place};
+pub use video::{fresh_state, paint_frame, paint_line, screen_address};

@@ -1,0 +1,203 @@
+//! Buffers that lie against pages that nobody may touch: a call that leaves such a buffer stops the
+//! test with a fault. Bytes beside it that can be reached must stay as they were.
+
+use std::ffi::{c_int, c_void};
+use std::io::Error;
+use std::ptr;
+
+use tropfenpfad_sys::IMAGE_LENGTH;
+
+use crate::images::{self, Kind};
+use crate::inputs::random_bytes;
+
+const PAGE: usize = 4096;
+const NO_ACCESS: c_int = 0;
+const READ: c_int = 1;
+const READ_WRITE: c_int = 3;
+const PRIVATE_ANONYMOUS: c_int = 0x22;
+const BAD_ADDRESS: i32 = 14;
+
+extern "C" {
+    fn mmap(
+        place: *mut c_void,
+        length: usize,
+        protection: c_int,
+        flags: c_int,
+        file: c_int,
+        offset: i64,
+    ) -> *mut c_void;
+    fn mprotect(place: *mut c_void, length: usize, protection: c_int) -> c_int;
+    fn munmap(place: *mut c_void, length: usize) -> c_int;
+    fn access(path: *const c_void, mode: c_int) -> c_int;
+}
+
+/// Lengths of memory to lend, the right one first.
+const MEMORIES: [usize; 7] = [
+    IMAGE_LENGTH,
+    0,
+    1,
+    4096,
+    IMAGE_LENGTH - 1,
+    IMAGE_LENGTH + 1,
+    IMAGE_LENGTH + 4096,
+];
+
+/// What bytes beside a buffer hold.
+const BESIDE: u8 = 0xA5;
+
+/// Which side of a buffer touches an inaccessible page.
+#[derive(Clone, Copy, Debug)]
+pub enum Against {
+    End,
+    Start,
+}
+
+pub const SIDES: [Against; 2] = [Against::End, Against::Start];
+
+/// Every memory length against both sides, with the bytes of an image as far as they go.
+pub fn memories(kind: Kind) -> impl Iterator<Item = Lent> {
+    let image = images::image(kind, 1);
+    MEMORIES.into_iter().flat_map(move |length| {
+        let content: Vec<u8> = image.iter().cycle().take(length).copied().collect();
+        SIDES.map(|side| Lent::new(side, content.clone()))
+    })
+}
+
+/// Buffers of these lengths against both sides, with random bytes.
+pub fn outputs(lengths: &[usize]) -> Vec<Lent> {
+    let lent = |&length| SIDES.map(|side| Lent::new(side, random_bytes(2, length)));
+    lengths.iter().flat_map(lent).collect()
+}
+
+/// A buffer of a length against one side of guarded pages, and the same bytes in a vector.
+pub struct Lent {
+    pages: Pages,
+    against: Against,
+    /// What the buffer has to hold, for the model to change.
+    pub copy: Vec<u8>,
+}
+
+impl Lent {
+    pub fn new(against: Against, content: Vec<u8>) -> Self {
+        let mut pages = Pages::new(content.len());
+        assert!(pages.are_guarded());
+        let place = pages.place(against, content.len());
+        let bytes = pages.bytes_mut();
+        bytes.fill(BESIDE);
+        bytes[place..place + content.len()].copy_from_slice(&content);
+        Lent {
+            pages,
+            against,
+            copy: content,
+        }
+    }
+
+    pub fn pointer(&self) -> *mut u8 {
+        let place = self.pages.place(self.against, self.length());
+        self.pages.first().wrapping_add(place)
+    }
+
+    pub fn length(&self) -> usize {
+        self.copy.len()
+    }
+
+    /// From now on a store into the buffer is a fault too.
+    pub fn make_read_only(&self) {
+        self.pages.protect(READ);
+    }
+
+    /// Compares the buffer with the vector, and all beside it with what was there.
+    #[track_caller]
+    pub fn check(&self, what: &str) {
+        let place = self.pages.place(self.against, self.length());
+        let (before, rest) = self.pages.bytes().split_at(place);
+        let (buffer, after) = rest.split_at(self.length());
+        assert!(buffer == self.copy, "{what}: the buffer");
+        assert!(before.iter().all(|&byte| byte == BESIDE), "{what}: before");
+        assert!(after.iter().all(|&byte| byte == BESIDE), "{what}: after");
+    }
+}
+
+/// Open pages between two inaccessible ones.
+struct Pages {
+    mapping: *mut u8,
+    open: usize,
+}
+
+impl Pages {
+    /// Room for this many bytes, and for one page at least.
+    fn new(bytes: usize) -> Self {
+        let open = bytes.div_ceil(PAGE).max(1) * PAGE;
+        // SAFETY: a new mapping at a place of the system's choice.
+        let mapping = unsafe {
+            mmap(
+                ptr::null_mut(),
+                open + 2 * PAGE,
+                NO_ACCESS,
+                PRIVATE_ANONYMOUS,
+                -1,
+                0,
+            )
+        };
+        assert_ne!(mapping as isize, -1, "mmap: {}", Error::last_os_error());
+        let pages = Pages {
+            mapping: mapping.cast(),
+            open,
+        };
+        pages.protect(READ_WRITE);
+        pages
+    }
+
+    fn protect(&self, protection: c_int) {
+        // SAFETY: the open pages are this mapping's own.
+        let failed = unsafe { mprotect(self.first().cast(), self.open, protection) };
+        assert_eq!(failed, 0, "mprotect: {}", Error::last_os_error());
+    }
+
+    fn first(&self) -> *mut u8 {
+        self.mapping.wrapping_add(PAGE)
+    }
+
+    /// Where in the open bytes a buffer of this length lies against an inaccessible page.
+    fn place(&self, against: Against, length: usize) -> usize {
+        assert!(length <= self.open);
+        match against {
+            Against::Start => 0,
+            Against::End => self.open - length,
+        }
+    }
+
+    /// All open bytes.
+    fn bytes(&self) -> &[u8] {
+        // SAFETY: open pages can be read, and nobody changes them while they are lent.
+        unsafe { std::slice::from_raw_parts(self.first(), self.open) }
+    }
+
+    /// All open bytes, to be changed.
+    fn bytes_mut(&mut self) -> &mut [u8] {
+        self.protect(READ_WRITE);
+        // SAFETY: they were just made writable, and `self` is lent exclusively.
+        unsafe { std::slice::from_raw_parts_mut(self.first(), self.open) }
+    }
+
+    /// Whether the bytes just before and just after the open pages are out of reach. The system
+    /// is asked to read a name there, which it refuses without a fault.
+    fn are_guarded(&self) -> bool {
+        let outside = [
+            self.mapping.wrapping_add(PAGE - 1),
+            self.first().wrapping_add(self.open),
+        ];
+        outside.into_iter().all(|place| {
+            // SAFETY: the system tests the address before it reads.
+            let answer = unsafe { access(place.cast_const().cast(), 0) };
+            answer == -1 && Error::last_os_error().raw_os_error() == Some(BAD_ADDRESS)
+        })
+    }
+}
+
+impl Drop for Pages {
+    fn drop(&mut self) {
+        // SAFETY: the mapping is this one's own and is not used again.
+        unsafe { munmap(self.mapping.cast(), self.open + 2 * PAGE) };
+    }
+}

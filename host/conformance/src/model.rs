@@ -1,0 +1,15 @@
+//! Models that share no code with the library, written from the rules in other shapes than its own.
+//!
+//! [`Video`] paints by tables: what a screen byte does is looked up, the four registers are one
+//! word, six pixels are six lanes of another. [`planes`] paints by bit planes. [`Bus`] decodes by a
+//! map of pages. Each entry point holds its refusals as a list, of which the first that applies is
+//! given. The answers are the C interface's records, so that whole answers can be compared, refused
+//! ones included.
+
+mod bus;
+pub mod planes;
+mod refusal;
+mod video;
+
+pub use bus::Bus;
+pub use video::Video;

@@ -1,0 +1,178 @@
+//! Right and wrong values for every input, and a tally that says which refusal is due.
+//!
+//! These tables and limits are not the models'; a test tries every mix of them on the library and
+//! on the model alike.
+
+use std::collections::{BTreeMap, BTreeSet};
+
+use tropfenpfad::Refusal;
+use tropfenpfad_sys::{Latches, State, FRAME_LENGTH, IMAGE_LENGTH, LINE_LENGTH};
+
+use crate::inputs::random_bytes;
+
+/// Values to hand over, right ones and wrong ones.
+pub struct Values<T: 'static> {
+    pub right: &'static [T],
+    pub wrong: &'static [T],
+}
+
+impl<T: Copy> Values<T> {
+    /// Each value, and whether it is wrong.
+    pub fn each(self) -> impl Iterator<Item = (T, bool)> {
+        let right = self.right.iter().map(|&value| (value, false));
+        right.chain(self.wrong.iter().map(|&value| (value, true)))
+    }
+}
+
+pub const MEMORIES: Values<usize> = Values {
+    right: &[IMAGE_LENGTH],
+    wrong: &[
+        0,
+        1,
+        LINE_LENGTH,
+        FRAME_LENGTH,
+        IMAGE_LENGTH - 1,
+        IMAGE_LENGTH + 1,
+        2 * IMAGE_LENGTH,
+    ],
+};
+pub const LINE_OUTPUTS: Values<usize> = Values {
+    right: &[LINE_LENGTH],
+    wrong: &[
+        0,
+        1,
+        LINE_LENGTH - 1,
+        LINE_LENGTH + 1,
+        2 * LINE_LENGTH,
+        LINE_LENGTH + 256,
+        FRAME_LENGTH,
+    ],
+};
+pub const FRAME_OUTPUTS: Values<usize> = Values {
+    right: &[FRAME_LENGTH],
+    wrong: &[
+        0,
+        1,
+        LINE_LENGTH,
+        FRAME_LENGTH - LINE_LENGTH,
+        FRAME_LENGTH - 1,
+        FRAME_LENGTH + 1,
+        IMAGE_LENGTH,
+    ],
+};
+pub const MODES: Values<u8> = Values {
+    right: &[0, 2, 7],
+    wrong: &[8, 12, 128, 255],
+};
+pub const COUNTERS: Values<u8> = Values {
+    right: &[0, 31],
+    wrong: &[32, 33, 128, 255],
+};
+pub const LINES: Values<usize> = Values {
+    right: &[0, 199, 223],
+    wrong: &[224, 225, 256, 0x1_0000, 0x1_0000_0000, usize::MAX],
+};
+pub const COLUMNS: Values<usize> = Values {
+    right: &[0, 39],
+    wrong: &[40, 41, 256, 0x1_0000, 0x1_0000_0000, usize::MAX],
+};
+pub const KINDS: Values<u8> = Values {
+    right: &[0, 1, 2],
+    wrong: &[3, 4, 128, 255],
+};
+const LATCH_BYTES: [u8; 4] = [0x00, 0x01, 0x82, 0xFF];
+
+/// Random bytes to lend, of the greatest length that is handed over.
+pub fn lent_bytes() -> Vec<u8> {
+    random_bytes(7, 2 * IMAGE_LENGTH)
+}
+
+/// States, and whether their mode and their counter are wrong.
+pub fn states() -> impl Iterator<Item = (State, [bool; 2])> {
+    MODES.each().flat_map(|(mode, bad_mode)| {
+        COUNTERS
+            .each()
+            .map(move |(counter, bad_counter)| (State { mode, counter }, [bad_mode, bad_counter]))
+    })
+}
+
+/// Latch records, and whether their kind is wrong.
+pub fn latches() -> impl Iterator<Item = (Latches, bool)> {
+    KINDS.each().flat_map(|(kind, wrong)| {
+        LATCH_BYTES.into_iter().flat_map(move |first| {
+            LATCH_BYTES.map(move |second| {
+                let latches = Latches {
+                    kind,
+                    first,
+                    second,
+                };
+                (latches, wrong)
+            })
+        })
+    })
+}
+
+/// What a wrapper has to give for a status.
+pub fn result(status: u8) -> Result<(), Refusal> {
+    match status {
+        0 => Ok(()),
+        number => Err(Refusal::from_number(number).expect("every status has a name")),
+    }
+}
+
+/// Says which number is due, counts calls and refusals, and tells of them at the end.
+///
+/// The number due is the first that applies of the entry point's refusals, in the order in which
+/// the header lists them.
+#[derive(Default)]
+pub struct Tally {
+    calls: usize,
+    refused: usize,
+    numbers: BTreeMap<u8, usize>,
+    /// How many refusals the entry point lists.
+    listed: usize,
+    /// Places in that list of two refusals that applied together, and no third one with them.
+    pairs: BTreeSet<(usize, usize)>,
+}
+
+impl Tally {
+    /// The number of the first refusal of an entry point's list that applies, 0 where none does.
+    pub fn due(&mut self, refusals: &[(u8, bool)]) -> u8 {
+        let mut places = Vec::new();
+        for (place, &(_, applies)) in refusals.iter().enumerate() {
+            if applies {
+                places.push(place);
+            }
+        }
+        if let [first, second] = places[..] {
+            self.pairs.insert((first, second));
+        }
+        self.listed = refusals.len();
+        places.first().map_or(0, |&place| refusals[place].0)
+    }
+
+    pub fn count(&mut self, status: u8) {
+        self.calls += 1;
+        self.refused += usize::from(status != 0);
+        *self.numbers.entry(status).or_default() += 1;
+    }
+
+    pub fn count_all(&mut self, statuses: &[u8]) {
+        statuses.iter().for_each(|&status| self.count(status));
+    }
+
+    /// Prints what was counted, and fails if some two refusals of the list never applied together,
+    /// since then nothing has shown which of them comes first.
+    #[track_caller]
+    pub fn finish(&self, entry: &str) {
+        println!(
+            "{entry}: {} calls, {} with bad inputs; by number {:?}; pairs: {}",
+            self.calls,
+            self.refused,
+            self.numbers,
+            self.pairs.len()
+        );
+        let all = self.listed * self.listed.saturating_sub(1) / 2;
+        assert_eq!(self.pairs.len(), all, "{entry}: pairs of bad inputs");
+    }
+}

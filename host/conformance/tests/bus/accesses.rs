@@ -1,0 +1,197 @@
+//! The library's decode and bus against the model: targets, numbers, bytes, latches, memory.
+
+use tropfenpfad::Target;
+use tropfenpfad_conformance::accesses::{Form, Step, TwoBuses};
+use tropfenpfad_conformance::calls;
+use tropfenpfad_conformance::images::{self, Kind};
+use tropfenpfad_conformance::inputs::{fresh_of_kind, random_latches};
+use tropfenpfad_conformance::model::Bus;
+use tropfenpfad_conformance::random::Xorshift;
+use tropfenpfad_sys::{Latches, KIND_JASMIN, KIND_MICRODISC, KIND_NONE};
+
+fn latches(kind: u8, first: u8, second: u8) -> Latches {
+    Latches {
+        kind,
+        first,
+        second,
+    }
+}
+
+/// Compares the decode of one address.
+fn compare_decode(model: &Bus, latches: Latches, address: u16) {
+    let library = calls::decode(latches, address);
+    let other = model.decode(latches, address);
+    assert_eq!(library, other, "{address:04x} under {latches:?}");
+}
+
+#[test]
+fn a_latch_pair_that_selects_otherwise() {
+    let model = Bus::new();
+    let addresses = [
+        0x0000, 0x02FF, 0x0300, 0x0310, 0x0314, 0x0318, 0x03FA, 0x03FB, 0x0400, 0xBFFF, 0xC000,
+        0xDFFF, 0xE000, 0xFFFF,
+    ];
+    let mut decodes = 0;
+    for pair in 0..=u16::MAX {
+        let [first, second] = pair.to_le_bytes();
+        for kind in 0..=3 {
+            for address in addresses {
+                compare_decode(&model, latches(kind, first, second), address);
+                decodes += 1;
+            }
+        }
+    }
+    for kind in 0..=u8::MAX {
+        for address in addresses {
+            compare_decode(&model, fresh_of_kind(kind), address);
+            decodes += 1;
+        }
+    }
+    println!("latches: {decodes} decodes compared, every pair of latch bytes and every kind");
+}
+
+#[test]
+fn an_access_that_answers_or_stores_otherwise() {
+    let model = Bus::new();
+    let mut generator = Xorshift::new(1);
+    let (mut accesses, mut refused, mut stores, mut comparisons) = (0, 0, 0, 0);
+    for list in 0..400 {
+        let memory = images::image(Kind::Random, list);
+        let mut bus = TwoBuses::new(memory, random_latches(&mut generator));
+        for _ in 0..500 {
+            bus.access(&model, Step::random(&mut generator));
+            bus.compare_memories();
+            comparisons += 1;
+        }
+        accesses += bus.accesses;
+        refused += bus.refused;
+        stores += bus.stores;
+    }
+    println!(
+        "accesses: {accesses} compared ({stores} stores, {refused} refused), \
+         memory whole {comparisons} times"
+    );
+}
+
+#[test]
+fn a_long_list_that_drifts() {
+    let model = Bus::new();
+    let mut generator = Xorshift::new(2);
+    let mut bus = TwoBuses::new(
+        images::image(Kind::Random, 2),
+        fresh_of_kind(KIND_MICRODISC),
+    );
+    for index in 1..=3_000_000 {
+        bus.access(&model, Step::random(&mut generator));
+        if index % 1_000 == 0 {
+            bus.compare_memories();
+        }
+    }
+    println!(
+        "one list: {} accesses compared ({} stores, {} refused), memory whole every thousand",
+        bus.accesses, bus.stores, bus.refused
+    );
+}
+
+#[test]
+fn a_read_or_write_at_some_address_that_differs() {
+    let model = Bus::new();
+    let mut accesses = 0;
+    let records = (0..3).flat_map(|kind| {
+        [0x00, 0x01, 0x02, 0x80, 0x82].map(|first| latches(kind, first, kind & first))
+    });
+    for record in records.chain([latches(KIND_JASMIN, 0, 1), latches(3, 0x81, 1)]) {
+        let mut bus = TwoBuses::new(images::image(Kind::Random, 3), record);
+        for address in 0..=u16::MAX {
+            for form in [Form::Read, Form::Write, Form::WriteInPlace] {
+                let step = Step {
+                    form,
+                    address,
+                    byte: (address >> 8) as u8 ^ address as u8 ^ form as u8,
+                    brings: Some(record),
+                };
+                bus.access(&model, step);
+            }
+        }
+        bus.compare_memories();
+        accesses += bus.accesses;
+    }
+    println!("sweeps: {accesses} accesses compared, every address under 17 latch records");
+}
+
+#[test]
+fn the_two_forms_of_write_that_disagree() {
+    let mut generator = Xorshift::new(5);
+    let mut by_value = images::image(Kind::Random, 5);
+    let mut in_place = by_value.clone();
+    let mut accesses = 0;
+    for _ in 0..500_000 {
+        let step = Step::random(&mut generator);
+        let before = random_latches(&mut generator);
+        let mut record = before;
+        let first = calls::write(&mut by_value, before, step.address, step.byte);
+        let second = calls::write_in_place(&mut in_place, &mut record, step.address, step.byte);
+        assert_eq!(first.latches, record, "{step:?} under {before:?}");
+        assert_eq!(
+            (first.status, first.target, first.number, first.byte),
+            (second.status, second.target, second.number, second.byte),
+            "{step:?} under {before:?}"
+        );
+        accesses += 2;
+    }
+    assert_eq!(by_value, in_place);
+    println!("forms of write: {accesses} accesses compared");
+}
+
+#[test]
+fn a_write_that_lands_behind_page_3_or_under_rom() {
+    let untouched = images::image(Kind::Random, 6);
+    let mut memory = untouched.clone();
+    let mut accesses = 0;
+    for kind in 0..3 {
+        // Fresh latches select no overlay under any kind.
+        for address in (0x0300..=0x03FF).chain(0xC000..=0xFFFF) {
+            let byte = !untouched[usize::from(address)];
+            let record = fresh_of_kind(kind);
+            let (place, _) = tropfenpfad::write(&mut memory, record, address, byte).unwrap();
+            assert!(!matches!(place.target, Target::Ram | Target::OverlayRam));
+            accesses += 1;
+        }
+    }
+    assert_eq!(memory, untouched);
+    println!("no store: {accesses} writes compared");
+}
+
+/// What `make check` leaves out.
+mod long {
+    use super::*;
+
+    /// Compares the decode of all addresses; gives how many there are.
+    fn compare_all_addresses(model: &Bus, latches: Latches) -> usize {
+        for address in 0..=u16::MAX {
+            compare_decode(model, latches, address);
+        }
+        0x1_0000
+    }
+
+    #[test]
+    fn an_address_decoded_otherwise() {
+        let model = Bus::new();
+        let mut decodes = 0;
+        for byte in 0..=u8::MAX {
+            // Every first latch, so every used bit and every unused one; the second in both values
+            // of its used bit, and in its unused bits.
+            decodes += compare_all_addresses(&model, latches(KIND_NONE, byte, !byte));
+            for second in [0x00, 0xFF] {
+                decodes += compare_all_addresses(&model, latches(KIND_MICRODISC, byte, second));
+            }
+            for second in [0x00, 0x01, 0xFE, 0xFF] {
+                decodes += compare_all_addresses(&model, latches(KIND_JASMIN, byte, second));
+            }
+            for first in [0x00, 0x01] {
+                decodes += compare_all_addresses(&model, latches(KIND_JASMIN, first, byte));
+            }
+        }
+        println!("decode: {decodes} addresses compared");
+    }
+}

@@ -1,0 +1,38 @@
+//! Every refusal, given by some wrapper under its own number and in words.
+
+use tropfenpfad::Refusal;
+use tropfenpfad_conformance::inputs::fresh_of_kind;
+use tropfenpfad_sys::{State, FRAME_LENGTH, IMAGE_LENGTH};
+
+#[test]
+fn a_result_that_hides_the_number() {
+    let state = tropfenpfad::fresh_state();
+    let latches = fresh_of_kind(3);
+    let mut memory = vec![0; IMAGE_LENGTH];
+    let mut frame = vec![0; FRAME_LENGTH];
+    let mode = State { mode: 8, ..state };
+    let counter = State {
+        counter: 32,
+        ..state
+    };
+    let given = [
+        tropfenpfad::paint_frame(&memory[1..], state, &mut frame).map(|_| ()),
+        tropfenpfad::paint_line(&memory, state, 0, &mut frame).map(|_| ()),
+        tropfenpfad::paint_frame(&memory, mode, &mut frame).map(|_| ()),
+        tropfenpfad::paint_frame(&memory, counter, &mut frame).map(|_| ()),
+        tropfenpfad::paint_line(&memory, state, 224, &mut frame[..240]).map(|_| ()),
+        tropfenpfad::screen_address(0, 40, 2).map(|_| ()),
+        tropfenpfad::write(&mut memory, latches, 0, 0).map(|_| ()),
+    ];
+    assert_eq!(given.len(), Refusal::ALL.len());
+    for (result, refusal) in given.into_iter().zip(Refusal::ALL) {
+        let error = result.unwrap_err();
+        assert_eq!(error, refusal);
+        let text = error.to_string();
+        assert!(text.starts_with(&format!("refused {}: ", refusal.number())));
+        assert_eq!(Refusal::from_number(refusal.number()), Some(refusal));
+    }
+    let named = (0..=u8::MAX).filter_map(Refusal::from_number).count();
+    assert_eq!((Refusal::from_number(0), named), (None, Refusal::ALL.len()));
+    println!("results: {} bad inputs compared", Refusal::ALL.len());
+}

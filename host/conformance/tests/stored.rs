@@ -1,0 +1,61 @@
+//! What proved programs have stored, made again by the models.
+
+use tropfenpfad_conformance::figures;
+use tropfenpfad_conformance::files;
+use tropfenpfad_conformance::model::Video;
+use tropfenpfad_sys::{FRAME_LENGTH, LINE_LENGTH};
+
+/// Says where the two part, line by line from the end.
+fn first_difference(stored: &str, made: &str) -> String {
+    let stored: Vec<&str> = stored.lines().collect();
+    let made: Vec<&str> = made.lines().collect();
+    let skipped = stored.len().saturating_sub(made.len());
+    let pairs = stored[skipped..].iter().zip(&made);
+    match pairs.enumerate().find(|(_, (stored, made))| stored != made) {
+        Some((line, (stored, made))) => {
+            format!(
+                "line {}: stored {stored:?}, made {made:?}",
+                skipped + line + 1
+            )
+        }
+        None => format!("{} lines stored, {} made", stored.len(), made.len()),
+    }
+}
+
+#[test]
+fn stored_figures_that_are_stale() {
+    let made = figures::lines();
+    assert_eq!(made.lines().count(), 15 + 256);
+    let stored = files::text("crates/figures/stdout");
+    let others = stored.strip_suffix(&made);
+    let apart = others.is_some_and(|others| others.is_empty() || others.ends_with('\n'));
+    assert!(apart, "{}", first_difference(&stored, &made));
+    println!("figures: 256 paintings and 15 times 65,536 decodes compared");
+}
+
+/// The listing of an image, as the model paints it from the fresh state.
+fn listing(memory: &[u8]) -> String {
+    let model = Video::new();
+    let mut frame = vec![0; FRAME_LENGTH];
+    let painted = model.paint_frame(memory, model.fresh_state(), &mut frame);
+    if painted.status != 0 {
+        return format!("refused {}\n", painted.status);
+    }
+    let mut text = String::new();
+    for line in frame.chunks(LINE_LENGTH) {
+        text.extend(line.iter().map(|&pixel| char::from(b'0' + pixel)));
+        text.push('\n');
+    }
+    text + &format!(
+        "mode {} counter {} screen {} character {}\n",
+        painted.state.mode, painted.state.counter, painted.screen, painted.character
+    )
+}
+
+#[test]
+fn a_stored_listing_of_the_test_card_that_is_stale() {
+    let made = listing(&files::bytes("crates/testcard/stdout"));
+    let stored = files::text("crates/listing/stdout");
+    assert!(stored == made, "{}", first_difference(&stored, &made));
+    println!("listing: 1 painting compared");
+}

@@ -1,0 +1,159 @@
+//! Lent buffers against inaccessible pages.
+
+use std::ptr;
+
+use tropfenpfad_conformance::calls;
+use tropfenpfad_conformance::guarded::{memories, outputs, Lent, SIDES};
+use tropfenpfad_conformance::images::{self, Kind};
+use tropfenpfad_conformance::inputs::{random_bytes, start_states};
+use tropfenpfad_conformance::model::Video;
+use tropfenpfad_sys::{
+    self as ffi, Painted, State, FRAME_LENGTH, IMAGE_LENGTH, LINES, LINE_LENGTH,
+};
+
+const LINE_LENGTHS: [usize; 6] = [LINE_LENGTH, 0, 1, LINE_LENGTH - 1, LINE_LENGTH + 1, 4096];
+const FRAME_LENGTHS: [usize; 6] = [
+    FRAME_LENGTH,
+    0,
+    LINE_LENGTH,
+    FRAME_LENGTH - 1,
+    FRAME_LENGTH + 1,
+    IMAGE_LENGTH,
+];
+const STATES: [State; 5] = [
+    State {
+        mode: 2,
+        counter: 0,
+    },
+    State {
+        mode: 6,
+        counter: 16,
+    },
+    State {
+        mode: 7,
+        counter: 31,
+    },
+    State {
+        mode: 8,
+        counter: 0,
+    },
+    State {
+        mode: 4,
+        counter: 32,
+    },
+];
+
+fn paint_line(memory: &Lent, state: State, line: usize, output: &Lent) -> Painted {
+    // SAFETY: both buffers are open for their lengths and lie in mappings of their own.
+    unsafe {
+        ffi::tropfenpfad_paint_line(
+            memory.pointer(),
+            memory.length(),
+            state,
+            line,
+            output.pointer(),
+            output.length(),
+        )
+    }
+}
+
+fn paint_frame(memory: &Lent, state: State, frame: &Lent) -> Painted {
+    // SAFETY: as for a line.
+    unsafe {
+        ffi::tropfenpfad_paint_frame(
+            memory.pointer(),
+            memory.length(),
+            state,
+            frame.pointer(),
+            frame.length(),
+        )
+    }
+}
+
+#[test]
+fn a_line_painter_that_leaves_its_buffers() {
+    let model = Video::new();
+    let (mut calls, mut refused) = (0, 0);
+    for memory in memories(Kind::Random) {
+        memory.make_read_only();
+        for output in &mut outputs(&LINE_LENGTHS) {
+            for state in STATES {
+                for line in [0, 199, 200, 223, 224, usize::MAX] {
+                    let answer = paint_line(&memory, state, line, output);
+                    let due = model.paint_line(&memory.copy, state, line, &mut output.copy);
+                    assert_eq!(answer, due);
+                    output.check("output");
+                    calls += 1;
+                    refused += usize::from(answer.status != 0);
+                }
+            }
+        }
+        memory.check("memory");
+    }
+    println!("lines in guarded buffers: {calls} calls compared, {refused} with bad inputs");
+}
+
+#[test]
+fn a_frame_painter_that_leaves_its_buffers() {
+    let model = Video::new();
+    let (mut calls, mut refused) = (0, 0);
+    for kind in Kind::ALL {
+        for memory in memories(kind) {
+            memory.make_read_only();
+            for output in &mut outputs(&FRAME_LENGTHS) {
+                for state in STATES {
+                    let answer = paint_frame(&memory, state, output);
+                    let due = model.paint_frame(&memory.copy, state, &mut output.copy);
+                    assert_eq!(answer, due);
+                    output.check("frame");
+                    calls += 1;
+                    refused += usize::from(answer.status != 0);
+                }
+            }
+            memory.check("memory");
+        }
+    }
+    println!("frames in guarded buffers: {calls} calls compared, {refused} with bad inputs");
+}
+
+#[test]
+fn a_line_that_is_painted_beyond_its_240_bytes() {
+    let model = Video::new();
+    let mut calls = 0;
+    for side in SIDES {
+        let memory = Lent::new(side, images::image(Kind::Modes, 3));
+        let mut output = Lent::new(side, random_bytes(3, LINE_LENGTH));
+        memory.make_read_only();
+        for line in 0..LINES {
+            for state in start_states() {
+                let answer = paint_line(&memory, state, line, &output);
+                let due = model.paint_line(&memory.copy, state, line, &mut output.copy);
+                assert_eq!(answer, due);
+                output.check("output");
+                calls += 1;
+            }
+        }
+    }
+    println!("every line in guarded buffers: {calls} paintings compared");
+}
+
+#[test]
+fn a_null_pointer_of_length_0_that_is_followed() {
+    let state = calls::fresh_state();
+    let image = images::image(Kind::Random, 4);
+    let mut output = [0; LINE_LENGTH];
+    let (read, write) = (ptr::null::<u8>(), ptr::null_mut::<u8>());
+    // SAFETY: a null pointer comes with the length 0 only.
+    unsafe {
+        let line = ffi::tropfenpfad_paint_line(read, 0, state, 0, output.as_mut_ptr(), 240);
+        assert_eq!(line.status, 1);
+        let line = ffi::tropfenpfad_paint_line(image.as_ptr(), 65536, state, 0, write, 0);
+        assert_eq!(line.status, 2);
+        let frame = ffi::tropfenpfad_paint_frame(read, 0, state, write, 0);
+        assert_eq!(frame.status, 1);
+        let frame = ffi::tropfenpfad_paint_frame(image.as_ptr(), 65536, state, write, 0);
+        assert_eq!(frame.status, 2);
+    }
+    assert_eq!(output, [0; LINE_LENGTH]);
+    println!("null pointers to paint from or to: 4 bad inputs compared");
+}

@@ -1,0 +1,208 @@
+//! The library's painter against the model: every pixel, the state and both counts.
+
+use tropfenpfad_conformance::calls;
+use tropfenpfad_conformance::compare::assert_same_bytes;
+use tropfenpfad_conformance::images::{self, Kind};
+use tropfenpfad_conformance::inputs::{all_states, start_states, MODES};
+use tropfenpfad_conformance::model::{planes, Video};
+use tropfenpfad_conformance::random::Xorshift;
+use tropfenpfad_sys::{State, COLUMNS, FRAME_LENGTH, LINES, LINE_LENGTH};
+
+/// Both painters, each with a frame and a line of its own that hold other bytes before.
+struct Bench {
+    model: Video,
+    frames: [Vec<u8>; 2],
+    lines: [[u8; LINE_LENGTH]; 2],
+}
+
+impl Bench {
+    fn new() -> Self {
+        Bench {
+            model: Video::new(),
+            frames: [vec![0; FRAME_LENGTH], vec![0; FRAME_LENGTH]],
+            lines: [[0; LINE_LENGTH]; 2],
+        }
+    }
+
+    /// Paints a frame with both, compares all of it, and gives the state afterwards.
+    fn frame(&mut self, what: &str, memory: &[u8], state: State) -> State {
+        let [first, second] = &mut self.frames;
+        first.fill(0xA5);
+        second.fill(0x5A);
+        let library = calls::paint_frame(memory, state, first);
+        let model = self.model.paint_frame(memory, state, second);
+        assert_eq!(library, model, "{what} from {state:?}");
+        assert_eq!(library.status, 0, "{what} from {state:?}");
+        assert_same_bytes(what, first, second);
+        library.state
+    }
+
+    /// Paints a line with both, compares all of it, and gives the state afterwards.
+    fn line(&mut self, what: &str, memory: &[u8], state: State, line: usize) -> State {
+        let [first, second] = &mut self.lines;
+        first.fill(0xA5);
+        second.fill(0x5A);
+        let library = calls::paint_line(memory, state, line, first);
+        let model = self.model.paint_line(memory, state, line, second);
+        assert_eq!(library, model, "{what}, line {line} from {state:?}");
+        assert_eq!(library.status, 0, "{what}, line {line} from {state:?}");
+        assert_same_bytes(&format!("{what}, line {line}"), first, second);
+        library.state
+    }
+}
+
+#[test]
+fn a_line_painted_otherwise() {
+    let mut bench = Bench::new();
+    let mut paintings = 0;
+    for kind in Kind::ALL {
+        for seed in 0..4 {
+            let memory = images::image(kind, 1_000_000 + seed);
+            for line in 0..LINES {
+                for state in start_states() {
+                    bench.line(&format!("{kind:?} image {seed}"), &memory, state, line);
+                    paintings += 1;
+                }
+            }
+        }
+    }
+    println!("lines: {paintings} paintings compared, every line, mode and phase");
+}
+
+#[test]
+fn a_mode_or_counter_taken_otherwise() {
+    let mut bench = Bench::new();
+    let mut paintings = 0;
+    for kind in Kind::ALL {
+        let memory = images::image(kind, 2_000_000);
+        for state in all_states() {
+            let after = bench.frame(&format!("{kind:?} image"), &memory, state);
+            assert_eq!(after.counter, (state.counter + 1) % 32);
+            for line in [0, 199, 200, 223] {
+                let after = bench.line(&format!("{kind:?} image"), &memory, state, line);
+                assert_eq!(after.counter, state.counter);
+                paintings += 1;
+            }
+            paintings += 1;
+        }
+    }
+    println!("states: {paintings} paintings compared, all 256 states");
+}
+
+#[test]
+fn a_frame_that_is_not_its_lines() {
+    let mut bench = Bench::new();
+    let mut paintings = 0;
+    for kind in Kind::ALL {
+        for (seed, state) in start_states().enumerate() {
+            let memory = images::image(kind, 3_000_000 + seed as u64);
+            let after = bench.frame(&format!("{kind:?} image {seed}"), &memory, state);
+            let mut reached = state;
+            for line in 0..LINES {
+                reached = bench.line(&format!("{kind:?} image {seed}"), &memory, reached, line);
+                let place = LINE_LENGTH * line;
+                let there = &bench.frames[0][place..place + LINE_LENGTH];
+                assert_same_bytes("the line in its frame", &bench.lines[0], there);
+                paintings += 1;
+            }
+            assert_eq!(reached.mode, after.mode);
+            paintings += 1;
+        }
+    }
+    println!("frames against their lines: {paintings} paintings compared");
+}
+
+#[test]
+fn a_screen_address_given_otherwise() {
+    let model = Video::new();
+    let mut addresses = 0;
+    for line in 0..LINES {
+        for column in 0..COLUMNS {
+            for mode in 0..MODES {
+                let library = calls::screen_address(line, column, mode);
+                let model = model.screen_address(line, column, mode);
+                assert_eq!(library, model, "line {line}, column {column}, mode {mode}");
+                addresses += 1;
+            }
+        }
+    }
+    println!("screen addresses: {addresses} compared");
+}
+
+#[test]
+fn a_frame_that_hangs_on_bytes_video_never_reads() {
+    let mut bench = Bench::new();
+    let mut generator = Xorshift::new(4);
+    let mut paintings = 0;
+    for kind in Kind::ALL {
+        for (seed, state) in start_states().enumerate() {
+            let mut memory = images::image(kind, 4_000_000 + seed as u64);
+            let after = bench.frame(&format!("{kind:?} image {seed}"), &memory, state);
+            let before = bench.frames[0].clone();
+            generator.fill(&mut memory[..0x9800]);
+            generator.fill(&mut memory[0xBFE0..]);
+            let again = bench.frame(&format!("{kind:?} image {seed}"), &memory, state);
+            assert_eq!(after, again);
+            assert_same_bytes("after a change out of reach", &bench.frames[0], &before);
+            paintings += 2;
+        }
+    }
+    println!("unread bytes: {paintings} paintings compared");
+}
+
+#[test]
+fn two_independent_painters_that_disagree() {
+    let model = Video::new();
+    let [mut first, mut second] = [vec![0; FRAME_LENGTH], vec![0xFF; FRAME_LENGTH]];
+    let mut compared = 0;
+    for kind in Kind::ALL {
+        for (seed, state) in (0..).zip(start_states()) {
+            let memory = images::image(kind, seed);
+            let tables = model.paint_frame(&memory, state, &mut first);
+            let planes = planes::paint_frame(&memory, state, &mut second);
+            assert_eq!(tables, planes, "{kind:?} from {state:?}");
+            assert_same_bytes("a frame by planes", &first, &second);
+            compared += 1;
+        }
+    }
+    println!("{compared} frames by tables and by planes are equal");
+}
+
+/// What `make check` leaves out.
+mod long {
+    use std::collections::HashSet;
+
+    use tropfenpfad_conformance::compare::fingerprint;
+    use tropfenpfad_conformance::inputs::COUNTERS;
+    use tropfenpfad_sys::IMAGE_LENGTH;
+
+    use super::*;
+
+    /// Seeds for each kind and each start state.
+    const SEEDS: u64 = 80;
+
+    #[test]
+    fn a_frame_painted_otherwise() {
+        let mut bench = Bench::new();
+        let mut memory = vec![0; IMAGE_LENGTH];
+        let mut different = HashSet::new();
+        let mut paintings = 0;
+        for kind in Kind::ALL {
+            for (index, state) in start_states().enumerate() {
+                for seed in 0..SEEDS {
+                    let seed = index as u64 * SEEDS + seed;
+                    images::generate(kind, seed, &mut memory);
+                    bench.frame(&format!("{kind:?} image {seed}"), &memory, state);
+                    different.insert(fingerprint(&bench.frames[0]));
+                    paintings += 1;
+                }
+            }
+        }
+        println!(
+            "frames: {paintings} paintings compared, {} different frames, {} modes, counters {COUNTERS:?}",
+            different.len(),
+            MODES
+        );
+        assert!(different.len() >= 20_000, "the images are too much alike");
+    }
+}

@@ -1,0 +1,81 @@
+//! The wrappers against the C calls, right and wrong inputs alike.
+
+use tropfenpfad::{Painting, Refusal};
+use tropfenpfad_conformance::calls;
+use tropfenpfad_conformance::refusals::{
+    lent_bytes, result, states, COLUMNS, FRAME_OUTPUTS, LINES, LINE_OUTPUTS, MEMORIES, MODES,
+};
+use tropfenpfad_sys::Painted;
+
+fn painting(answer: Painted) -> Result<Painting, Refusal> {
+    result(answer.status).map(|()| Painting {
+        state: answer.state,
+        screen: answer.screen,
+        character: answer.character,
+    })
+}
+
+#[test]
+fn a_line_that_the_wrapper_gives_otherwise() {
+    let memory = lent_bytes();
+    let [mut first, mut second] = [lent_bytes(), lent_bytes()];
+    let mut compared = 0;
+    for (length, _) in MEMORIES.each() {
+        for (room, _) in LINE_OUTPUTS.each() {
+            for (state, _) in states() {
+                for (line, _) in LINES.each() {
+                    let lent = &memory[..length];
+                    let answer = calls::paint_line(lent, state, line, &mut first[..room]);
+                    let given = tropfenpfad::paint_line(lent, state, line, &mut second[..room]);
+                    assert_eq!(given, painting(answer), "{state:?}, line {line}");
+                    assert!(first[..room] == second[..room], "{state:?}, line {line}");
+                    compared += 1;
+                }
+            }
+        }
+    }
+    assert!(first == second);
+    println!("wrapper of paint_line: {compared} calls compared");
+}
+
+#[test]
+fn a_frame_that_the_wrapper_gives_otherwise() {
+    let memory = lent_bytes();
+    let [mut first, mut second] = [lent_bytes(), lent_bytes()];
+    let mut compared = 0;
+    for (length, _) in MEMORIES.each() {
+        for (room, _) in FRAME_OUTPUTS.each() {
+            for (state, _) in states() {
+                let lent = &memory[..length];
+                let answer = calls::paint_frame(lent, state, &mut first[..room]);
+                let given = tropfenpfad::paint_frame(lent, state, &mut second[..room]);
+                assert_eq!(given, painting(answer), "{state:?}");
+                assert!(first == second, "{state:?}");
+                compared += 1;
+            }
+        }
+    }
+    println!("wrapper of paint_frame: {compared} calls compared");
+}
+
+#[test]
+fn a_screen_address_that_the_wrapper_gives_otherwise() {
+    let mut compared = 0;
+    for (mode, _) in MODES.each() {
+        for (line, _) in LINES.each() {
+            for (column, _) in COLUMNS.each() {
+                let answer = calls::screen_address(line, column, mode);
+                let given = tropfenpfad::screen_address(line, column, mode);
+                assert_eq!(given, result(answer.status).map(|()| answer.address));
+                compared += 1;
+            }
+        }
+    }
+    println!("wrapper of screen_address: {compared} calls compared");
+}
+
+#[test]
+fn a_fresh_state_that_the_wrapper_gives_otherwise() {
+    assert_eq!(tropfenpfad::fresh_state(), calls::fresh_state());
+    println!("wrapper of fresh_state: 1 call compared");
+}

@@ -1,0 +1,216 @@
+//! The header `include/tropfenpfad.h` in Rust: its constants, records and calls under its section
+//! heads and in its order, which a test compares. What a call takes, refuses and leaves is said
+//! there.
+
+// ----------------------------------------------------------------------------
+// Sizes
+// ----------------------------------------------------------------------------
+
+/// Bytes in a memory image: the machine's whole RAM, byte n at address n.
+pub const IMAGE_LENGTH: usize = 65_536;
+
+/// Cells in a line; columns are 0 to 39.
+pub const COLUMNS: usize = 40;
+
+/// Lines in a frame; they are 0 to 223.
+pub const LINES: usize = 224;
+
+/// Bytes in a painted line, one for each pixel from left to right. A pixel is 0 to 7: bit 0 red,
+/// bit 1 green, bit 2 blue.
+pub const LINE_LENGTH: usize = 240;
+
+/// Bytes in a painted frame: its lines one after the other.
+pub const FRAME_LENGTH: usize = 53_760;
+
+// ----------------------------------------------------------------------------
+// Refusals
+// ----------------------------------------------------------------------------
+
+/// The call was answered.
+pub const DONE: u8 = 0;
+/// The memory image has another length.
+pub const REFUSED_MEMORY: u8 = 1;
+/// The lent output has another length.
+pub const REFUSED_OUTPUT: u8 = 2;
+/// The mode is too great.
+pub const REFUSED_MODE: u8 = 3;
+/// The flash counter is too great.
+pub const REFUSED_COUNTER: u8 = 4;
+/// The line is too great.
+pub const REFUSED_LINE: u8 = 5;
+/// The column is too great.
+pub const REFUSED_COLUMN: u8 = 6;
+/// The controller kind is too great.
+pub const REFUSED_KIND: u8 = 7;
+
+// ----------------------------------------------------------------------------
+// Video
+// ----------------------------------------------------------------------------
+
+/// What video carries from line to line and frame to frame.
+#[repr(C)]
+#[derive(Clone, Copy, Debug, PartialEq, Eq)]
+pub struct State {
+    /// The mode register, 0 to 7: bit 2 hires, bit 1 50 Hz.
+    pub mode: u8,
+    /// The flash counter, 0 to 31; ink with the flash style is hidden from 16 on.
+    pub counter: u8,
+}
+
+/// The answer of a painted line or frame.
+#[repr(C)]
+#[derive(Clone, Copy, Debug, PartialEq, Eq)]
+pub struct Painted {
+    /// 0, or the refusal's number.
+    pub status: u8,
+    /// The state afterwards; as handed in on a refusal.
+    pub state: State,
+    /// Screen bytes used.
+    pub screen: u32,
+    /// Character bytes used.
+    pub character: u32,
+}
+
+/// The answer of a screen address lookup.
+#[repr(C)]
+#[derive(Clone, Copy, Debug, PartialEq, Eq)]
+pub struct Address {
+    /// 0, or the refusal's number.
+    pub status: u8,
+    /// Where the cell's screen byte stands in RAM.
+    pub address: u16,
+}
+
+#[allow(missing_docs)]
+extern "C" {
+    pub fn tropfenpfad_fresh_state() -> State;
+
+    pub fn tropfenpfad_screen_address(line: usize, column: usize, mode: u8) -> Address;
+
+    pub fn tropfenpfad_paint_line(
+        memory: *const u8,
+        memory_length: usize,
+        state: State,
+        line: usize,
+        output: *mut u8,
+        output_length: usize,
+    ) -> Painted;
+
+    pub fn tropfenpfad_paint_frame(
+        memory: *const u8,
+        memory_length: usize,
+        state: State,
+        frame: *mut u8,
+        frame_length: usize,
+    ) -> Painted;
+}
+
+// ----------------------------------------------------------------------------
+// Bus
+// ----------------------------------------------------------------------------
+
+/// No disc controller.
+pub const KIND_NONE: u8 = 0;
+/// The Microdisc: one latch, at 0314.
+pub const KIND_MICRODISC: u8 = 1;
+/// The Jasmin: two latches, at 03FA and 03FB.
+pub const KIND_JASMIN: u8 = 2;
+
+/// RAM below C000; its number is the address.
+pub const TARGET_RAM: u8 = 0;
+/// The 6522; its number is the register, 0 to 15.
+pub const TARGET_VIA: u8 = 1;
+/// The disc controller; its number is the place in page 3.
+pub const TARGET_CONTROLLER: u8 = 2;
+/// The BASIC ROM; its number counts from C000.
+pub const TARGET_BASIC_ROM: u8 = 3;
+/// RAM from C000 on; its number is the address.
+pub const TARGET_OVERLAY_RAM: u8 = 4;
+/// The controller's boot EPROM; its number counts from C000.
+pub const TARGET_BOOT_EPROM: u8 = 5;
+/// Nothing is there; its number is the place in page 3.
+pub const TARGET_UNASSIGNED: u8 = 6;
+
+/// The controller that is fitted, and what its two latches hold.
+#[repr(C)]
+#[derive(Clone, Copy, Debug, PartialEq, Eq)]
+pub struct Latches {
+    /// 0 none, 1 Microdisc, 2 Jasmin.
+    pub kind: u8,
+    /// Microdisc: written at 0314. Jasmin: written at 03FA.
+    pub first: u8,
+    /// Jasmin: written at 03FB.
+    pub second: u8,
+}
+
+/// The answer of an address decode.
+#[repr(C)]
+#[derive(Clone, Copy, Debug, PartialEq, Eq)]
+pub struct Decoded {
+    /// 0, or the refusal's number.
+    pub status: u8,
+    /// What answers at the address, 0 to 6.
+    pub target: u8,
+    /// Which of the target's bytes or registers it is.
+    pub number: u16,
+}
+
+/// The answer of a read, and of a write in place.
+#[repr(C)]
+#[derive(Clone, Copy, Debug, PartialEq, Eq)]
+pub struct Access {
+    /// 0, or the refusal's number.
+    pub status: u8,
+    /// What answered, 0 to 6.
+    pub target: u8,
+    /// Which of the target's bytes or registers it was.
+    pub number: u16,
+    /// The byte read; 0 for a write.
+    pub byte: u8,
+}
+
+/// The answer of a write by value.
+#[repr(C)]
+#[derive(Clone, Copy, Debug, PartialEq, Eq)]
+pub struct Written {
+    /// 0, or the refusal's number.
+    pub status: u8,
+    /// What answered, 0 to 6.
+    pub target: u8,
+    /// Which of the target's bytes or registers it was.
+    pub number: u16,
+    /// The byte read, which a write leaves 0.
+    pub byte: u8,
+    /// The latches from the next access on; as handed in on a refusal.
+    pub latches: Latches,
+}
+
+#[allow(missing_docs)]
+extern "C" {
+    pub fn tropfenpfad_fresh_latches() -> Latches;
+
+    pub fn tropfenpfad_decode(latches: Latches, address: u16) -> Decoded;
+
+    pub fn tropfenpfad_read(
+        memory: *const u8,
+        memory_length: usize,
+        latches: Latches,
+        address: u16,
+    ) -> Access;
+
+    pub fn tropfenpfad_write(
+        memory: *mut u8,
+        memory_length: usize,
+        latches: Latches,
+        address: u16,
+        byte: u8,
+    ) -> Written;
+
+    pub fn tropfenpfad_write_in_place(
+        memory: *mut u8,
+        memory_length: usize,
+        latches: *mut Latches,
+        address: u16,
+        byte: u8,
+    ) -> Access;
+}

@@ -1,0 +1,33 @@
+//! The proved reference of the HCS10017, the ULA of the Oric Atmos, called from Rust.
+//!
+//! Video: where a cell's screen byte stands, a painted line, a painted frame. Bus: the decode of
+//! an address, a read, and a write in two forms. Each call gives its answer or a [`Refusal`]; on a
+//! refusal nothing that was lent has changed.
+//!
+//! ```
+//! let memory = vec![0; tropfenpfad::IMAGE_LENGTH];
+//! let mut frame = vec![0xFF; tropfenpfad::FRAME_LENGTH];
+//! let painting = tropfenpfad::paint_frame(&memory, tropfenpfad::fresh_state(), &mut frame)?;
+//! assert_eq!((painting.screen, painting.character), (8960, 0));
+//! assert!(frame.iter().all(|&pixel| pixel == 0));
+//! # Ok::<(), tropfenpfad::Refusal>(())
+//! ```
+//!
+//! The archive is found in `target/staticlib` of the repository, where `make lib` puts it, or in
+//! the directory that the environment variable `TROPFENPFAD_LIB` names during the build.
+
+#![deny(missing_docs)]
+
+mod bus;
+mod refusal;
+mod video;
+
+pub use bus::{decode, fresh_latches, read, write, write_in_place, Place, Target};
+pub use refusal::Refusal;
+pub use video::{fresh_state, paint_frame, paint_line, screen_address, Painting};
+
+#[doc(inline)]
+pub use tropfenpfad_sys::{
+    Latches, State, COLUMNS, FRAME_LENGTH, IMAGE_LENGTH, KIND_JASMIN, KIND_MICRODISC, KIND_NONE,
+    LINES, LINE_LENGTH,
+};

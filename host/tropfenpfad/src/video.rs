@@ -1,0 +1,90 @@
+//! The video half: screen addresses, lines, frames.
+
+use tropfenpfad_sys::{self as ffi, Painted, State};
+
+use crate::refusal::{check, Refusal};
+
+/// What painting a line or a frame gives beside its pixels.
+#[derive(Clone, Copy, Debug, PartialEq, Eq)]
+pub struct Painting {
+    /// The state to hand to the next line or frame.
+    pub state: State,
+    /// Screen bytes used.
+    pub screen: u32,
+    /// Character bytes used.
+    pub character: u32,
+}
+
+/// The state to begin with: mode 2 (text, 50 Hz), counter 0.
+pub fn fresh_state() -> State {
+    // SAFETY: no pointer is handed over.
+    unsafe { ffi::tropfenpfad_fresh_state() }
+}
+
+/// Where the screen byte of a cell stands. Refuses mode, line, column.
+///
+/// ```
+/// assert_eq!(tropfenpfad::screen_address(199, 39, 6), Ok(0xBF3F));
+/// ```
+pub fn screen_address(line: usize, column: usize, mode: u8) -> Result<u16, Refusal> {
+    // SAFETY: no pointer is handed over.
+    let answer = unsafe { ffi::tropfenpfad_screen_address(line, column, mode) };
+    check(answer.status).map(|()| answer.address)
+}
+
+/// Paints one line of 240 pixels; the counter does not move. Refuses memory, output, mode,
+/// counter, line.
+pub fn paint_line(
+    memory: &[u8],
+    state: State,
+    line: usize,
+    output: &mut [u8],
+) -> Result<Painting, Refusal> {
+    // SAFETY: both slices are valid for their lengths, and the exclusive one overlaps no other.
+    painting(unsafe {
+        ffi::tropfenpfad_paint_line(
+            memory.as_ptr(),
+            memory.len(),
+            state,
+            line,
+            output.as_mut_ptr(),
+            output.len(),
+        )
+    })
+}
+
+/// Paints a frame, line after line from 240 times its number on; the counter moves by one.
+/// Refuses memory, output, mode, counter.
+///
+/// ```
+/// use tropfenpfad::{fresh_state, paint_frame, FRAME_LENGTH, IMAGE_LENGTH};
+///
+/// let memory = vec![0; IMAGE_LENGTH];
+/// let mut frame = vec![0; FRAME_LENGTH];
+/// let mut state = fresh_state();
+/// for _ in 0..3 {
+///     state = paint_frame(&memory, state, &mut frame)?.state;
+/// }
+/// assert_eq!((state.mode, state.counter), (2, 3));
+/// # Ok::<(), tropfenpfad::Refusal>(())
+/// ```
+pub fn paint_frame(memory: &[u8], state: State, frame: &mut [u8]) -> Result<Painting, Refusal> {
+    // SAFETY: as for a line.
+    painting(unsafe {
+        ffi::tropfenpfad_paint_frame(
+            memory.as_ptr(),
+            memory.len(),
+            state,
+            frame.as_mut_ptr(),
+            frame.len(),
+        )
+    })
+}
+
+fn painting(answer: Painted) -> Result<Painting, Refusal> {
+    check(answer.status).map(|()| Painting {
+        state: answer.state,
+        screen: answer.screen,
+        character: answer.character,
+    })
+}
