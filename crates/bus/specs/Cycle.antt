@@ -2,7 +2,7 @@
 -- Assumes nothing.
 use Prim.Native.Nat.{ℕ}
 use mathlib.Core.Bool.{Bool, cond, _||_}
-use mathlib.Core.List.{[], _∷_}
+use mathlib.Core.List.{List, [], _∷_}
 use lib.Dec.{eqb}
 use lib.ListN.{length}
 use Rattle.machine.specs.Image.{Image, byteAt, withByte}
@@ -37,21 +37,21 @@ accessAnswer status reached byte =
     (record { status = status; target = 0; number = 0; byte = 0 })
 
 -- a read gives the byte of its place, and changes nothing
-unfoldable pub readAnswer : Image → Latches → ℕ → Access
+unfoldable pub readAnswer : List ℕ → Latches → ℕ → Access
 readAnswer memory latches address =
     accessAnswer (accessRefusal (length memory) (latches .kind)) (place latches address) (fetched memory (place latches address))
 
 -- a write has 0 for its byte read
-unfoldable pub writeAnswer : Image → Latches → ℕ → Access
+unfoldable pub writeAnswer : List ℕ → Latches → ℕ → Access
 writeAnswer memory latches address = accessAnswer (accessRefusal (length memory) (latches .kind)) (place latches address) 0
 
 -- the memory that a write leaves
-unfoldable pub writeContents : Image → Latches → ℕ → ℕ → Image
+unfoldable pub writeContents : List ℕ → Latches → ℕ → ℕ → List ℕ
 writeContents memory latches address byte =
     ifDone (accessRefusal (length memory) (latches .kind)) (stored memory (place latches address) byte) memory
 
 -- the latches that a write leaves
-unfoldable pub writeLatches : Image → Latches → ℕ → ℕ → Latches
+unfoldable pub writeLatches : List ℕ → Latches → ℕ → ℕ → Latches
 writeLatches memory latches address byte = ifDone (accessRefusal (length memory) (latches .kind)) (latchesAfter latches address byte) latches
 
 -- the answer of the write by value: that of the access, and the latches

@@ -44,8 +44,8 @@ pub(crate) fn paint_cell(
         };
     }
     let bitmap = line.is_bitmap(before.mode);
-    let character = line.character_address(before, byte);
-    let pattern = memory[choose_address(bitmap, screen, character)];
+    let definition = line.character_address(before, byte);
+    let pattern = memory[choose_address(bitmap, screen, definition)];
     PaintedCell {
         registers: before,
         colours: before.paint_colours(counter, pattern, byte),
