@@ -1,8 +1,8 @@
 -- `listing::text::line_text` meets its contract. The digits written, with the text of the pixels still to come, are the whole text.
 -- Assumes nothing.
-use Prim.Native.Nat.{_-_, _≤_, zero-le}
-use mathlib.Core.Path.{_≡_, refl, ap}
-use mathlib.Core.List.{_++_}
+use Prim.Native.Nat.{ℕ, _-_, _≤_, zero-le}
+use mathlib.Core.Path.{_≡_, refl, sym, ap, _∙_}
+use mathlib.Core.List.{[], _++_}
 use lib.ListN.{length, take, drop, length-set, drop-of-length-le}
 use native.Mathlib.Omega.{arith}
 use Rattle.listing.specs.Text.{lineText}
@@ -56,7 +56,8 @@ returns c =
     let pixels = c .before .before .args .pixels .now in
     let all : length pixels ≤ l .i = omega arith in
     let same : l .i ≡ length pixels = omega arith in
-    cc (l .inv .2, same, ap lineText (drop-of-length-le pixels all), last-turn (l .text) (length pixels) 10 (omega arith))
+    let finish : take (l .i) (l .text) ++ lineText [] ≡ lineText pixels = rw (drop-of-length-le pixels all) at (l .inv .2) in
+    last-turn (l .text) (length pixels) 10 (omega arith) ∙ ap (λ (n : ℕ). take n (l .text) ++ lineText []) (sym same) ∙ finish
 
 pub line-text-spec : {M : Type 1} → statement M
 line-text-spec =

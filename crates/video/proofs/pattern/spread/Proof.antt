@@ -8,7 +8,7 @@ use Rattle.video.proofs.pattern.spread.Tie as tie
 
 returns : tie.Need-returns
 returns c = let pattern = c .before .args .pattern in
-    cc (spread-by-copies pattern (omega (arith, c .before .fits .pattern)))
+    rw (c .wide .ensures) (spread-by-copies pattern (omega (arith, c .before .fits .pattern)))
 
 pub spread-spec : {M : Type 1} → statement M
 spread-spec = tie.close (tie.spec (λ c κs. tt) (λ c. search needs) returns)
