@@ -1,3 +1,4 @@
+pub mod Held
 pub mod Rows
 pub mod Stores
 pub mod Walks

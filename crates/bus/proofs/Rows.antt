@@ -28,11 +28,11 @@ module _ (low high a : ℕ) where
       go false e = simp e
 
 module _ (a : ℕ) where
-  pub in-upper : 0xC000 ≤ a → (pageThree upper : Place) → areas pageThree upper a ≡ upper
-  in-upper h pageThree upper = simp (le-leb 0xC000 a h)
+  pub in-upper : 0xC000 ≤ a → (profile : ℕ) (pageThree upper : Place) → areas profile pageThree upper a ≡ upper
+  in-upper h profile pageThree upper = simp (le-leb 0xC000 a h)
 
-  pub in-page-three : Within 0x300 0x3FF a → (pageThree upper : Place) → areas pageThree upper a ≡ pageThree
-  in-page-three h pageThree upper = simp (lt-leb 0xC000 a (omega arith), within 0x300 0x3FF a h)
+  pub in-page-three : Within 0x300 0x3FF a → (profile : ℕ) (pageThree upper : Place) → areas profile pageThree upper a ≡ pageThree
+  in-page-three h profile pageThree upper = simp (lt-leb 0xC000 a (omega arith), within 0x300 0x3FF a h)
 
-  pub in-ram : (a < 0xC000) × Beyond 0x300 0x3FF a → (pageThree upper : Place) → areas pageThree upper a ≡ ram a
-  in-ram h pageThree upper = simp (lt-leb 0xC000 a (h .0), beyond 0x300 0x3FF a (h .1))
+  pub in-ram : (a < 0xC000) × Beyond 0x300 0x3FF a → (profile : ℕ) (pageThree upper : Place) → areas profile pageThree upper a ≡ ram profile a
+  in-ram h profile pageThree upper = simp (lt-leb 0xC000 a (h .0), beyond 0x300 0x3FF a (h .1))

@@ -21,16 +21,17 @@ use denote.Ref.{MutRef, ptr-vals, mut-tells}
 use denote.Slice.{MutSlice, slice-vals, mut-slice-tells}
 use Rattle.bus.proofs.latch.Latches as latches-type
 
--- the memory and the latch record, each lent, then the address and the byte
+-- the memory, lent, the profile, the latch record, lent, then the address and the byte
 abbrev pub Params : Lfts 2 → List RattleType
-Params κs = MutSlice (named 0) (κs .0) u8 ∷ MutRef (named 1) (κs .1 .0) latches-type.the-row ∷ u16 ∷ u8 ∷ []
+Params κs = MutSlice (named 0) (κs .0) u8 ∷ u8 ∷ MutRef (named 1) (κs .1 .0) latches-type.the-row ∷ u16 ∷ u8 ∷ []
 
 -- the machine value of each, and that its type tells it
 abbrev pub spells : (κs : Lfts 2) → Spells (Params κs)
-spells κs = (slice-vals, (ptr-vals, (uint-vals w16, (uint-vals w8, tt))))
+spells κs = (slice-vals, (uint-vals w8, (ptr-vals, (uint-vals w16, (uint-vals w8, tt)))))
 
 abbrev pub tell : (κs : Lfts 2) → Tellss (Params κs) (Ises (Params κs)) (spells κs)
-tell κs = (mut-slice-tells (named 0) (κs .0) u8, (mut-tells (named 1) (κs .1 .0) latches-type.the-row, (uint-tells w16, (uint-tells w8, tt))))
+tell κs =
+    (mut-slice-tells (named 0) (κs .0) u8, (uint-tells w8, (mut-tells (named 1) (κs .1 .0) latches-type.the-row, (uint-tells w16, (uint-tells w8, tt)))))
 
 -- the machine values of the arguments, and what is known of them on entry
 abbrev pub passed : (κs : Lfts 2) → Denots (Params κs) → Valss (Params κs)

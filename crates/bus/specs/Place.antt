@@ -5,14 +5,15 @@ use mathlib.Core.Bool.{Bool, cond, _&&_, _||_}
 use mathlib.Core.List.{[], _∷_}
 use lib.Dec.{eqb, leb}
 use Rattle.machine.specs.Bits.{bit}
-use Rattle.machine.specs.Refusal.{refusal, ifDone, kindCheck}
+use Rattle.machine.specs.Image.{folded}
+use Rattle.machine.specs.Refusal.{refusal, ifDone, kindCheck, profileCheck, controllerCheck}
 use Rattle.bus.specs.declared.latch.Latches.{Latches}
 use Rattle.bus.specs.declared.place.Decoded.{Decoded}
 use Rattle.bus.specs.declared.place.Place.{Place}
 
--- target 0, RAM: the number is the address
-abbrev pub ram : ℕ → Place
-ram address = record { target = 0; number = address }
+-- target 0, RAM: the number is the folded address
+abbrev pub ram : ℕ → ℕ → Place
+ram profile address = record { target = 0; number = folded profile address }
 
 -- target 1, VIA: the number is the register
 abbrev pub via : ℕ → Place
@@ -46,13 +47,14 @@ epromStart = 0xC000
 abbrev pub between : ℕ → ℕ → ℕ → Bool
 between low high address = leb low address && leb address high
 
--- the areas of every decode: C000 to FFFF, page 3, and RAM
-abbrev pub areas : Place → Place → ℕ → Place
-areas pageThree upper address = cond (leb 0xC000 address) upper (cond (between 0x300 0x3FF address) pageThree (ram address))
+-- the areas of every decode, by the address as it is: C000 to FFFF, page 3, and RAM
+abbrev pub areas : ℕ → Place → Place → ℕ → Place
+areas profile pageThree upper address =
+    cond (leb 0xC000 address) upper (cond (between 0x300 0x3FF address) pageThree (ram profile address))
 
 -- no controller: page 3 is the VIA, C000 to FFFF is BASIC
-abbrev pub withoutController : ℕ → Place
-withoutController address = areas (via address) (basicRom address) address
+abbrev pub withoutController : ℕ → ℕ → Place
+withoutController profile address = areas profile (via address) (basicRom address) address
 
 -- the Microdisc's page 3: 0310 to 031F, of which 0310 to 0314 and 0318 are its registers
 abbrev pub microdiscPage : ℕ → Place
@@ -65,8 +67,8 @@ microdiscUpper latch address =
     cond (bit 2 latch) (basicRom address) (cond (bit 128 latch) (overlayRam address) (bootEprom epromStart address))
 
 -- the Microdisc, by its one latch
-abbrev pub withMicrodisc : ℕ → ℕ → Place
-withMicrodisc latch address = areas (microdiscPage address) (microdiscUpper latch address) address
+abbrev pub withMicrodisc : ℕ → ℕ → ℕ → Place
+withMicrodisc profile latch address = areas profile (microdiscPage address) (microdiscUpper latch address) address
 
 -- the Jasmin's page 3: its registers at the end
 abbrev pub jasminPage : ℕ → Place
@@ -78,22 +80,23 @@ jasminUpper first second address =
     cond (bit 1 first) (overlayRam address) (cond (bit 1 second) (bootEprom epromStart address) (basicRom address))
 
 -- the Jasmin, by its two latches
-abbrev pub withJasmin : ℕ → ℕ → ℕ → Place
-withJasmin first second address = areas (jasminPage address) (jasminUpper first second address) address
+abbrev pub withJasmin : ℕ → ℕ → ℕ → ℕ → Place
+withJasmin profile first second address = areas profile (jasminPage address) (jasminUpper first second address) address
 
 -- the target that an address reaches, by the controller kind
-unfoldable pub place : Latches → ℕ → Place
-place latches address =
-    cond (eqb (latches .kind) 1) (withMicrodisc (latches .first) address)
-    (cond (eqb (latches .kind) 2) (withJasmin (latches .first) (latches .second) address) (withoutController address))
+unfoldable pub place : ℕ → Latches → ℕ → Place
+place profile latches address =
+    cond (eqb (latches .kind) 1) (withMicrodisc profile (latches .first) address)
+    (cond (eqb (latches .kind) 2) (withJasmin profile (latches .first) (latches .second) address) (withoutController profile address))
 
--- refusal 7
-abbrev pub decodeRefusal : Latches → ℕ
-decodeRefusal latches = refusal (kindCheck (latches .kind) ∷ [])
+-- refusals 12, 7, 13
+abbrev pub decodeRefusal : ℕ → ℕ → ℕ
+decodeRefusal profile kind = refusal (profileCheck profile ∷ kindCheck kind ∷ controllerCheck profile kind ∷ [])
 
 -- target and number, each 0 where the decode is refused
-unfoldable pub decodeAnswer : Latches → ℕ → Decoded
-decodeAnswer latches address =
-    let status = decodeRefusal latches in
-    ifDone status (record { status = 0; target = place latches address .target; number = place latches address .number })
+unfoldable pub decodeAnswer : ℕ → Latches → ℕ → Decoded
+decodeAnswer profile latches address =
+    let status = decodeRefusal profile (latches .kind) in
+    let reached = place profile latches address in
+    ifDone status (record { status = 0; target = reached .target; number = reached .number })
     (record { status = status; target = 0; number = 0 })

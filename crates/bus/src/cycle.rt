@@ -1,15 +1,16 @@
 // One read or write of the bus.
 ghost use mathlib.Core.Path.{_≡_};
-ghost use Rattle.bus.specs.Cycle.{isMemory, fetched, stored, accessRefusal, readAnswer, writeAnswer, writeContents, writeLatches, written};
-ghost use Rattle.machine.specs.Image.{IsImage};
+ghost use Rattle.bus.specs.Cycle.{Held, isMemory, fetched, stored, accessRefusal, readAnswer, writeAnswer, writeContents, writeLatches, written};
 use crate::latch::Latches;
 use crate::place::Place;
 use crate::place::TARGET_OVERLAY_RAM;
 use crate::place::TARGET_RAM;
 use crate::place::reach;
 use machine::DONE;
+use machine::controller_refusal;
 use machine::kind_refusal;
 use machine::memory_refusal;
+use machine::profile_refusal;
 
 #[repr(C)]
 pub struct Access {
@@ -29,11 +30,11 @@ pub struct Written {
     pub latches: Latches,
 }
 
-// A read changes nothing. Refusals 1, 7.
-pub fn read(memory: &[u8], latches: Latches, address: u16) -> Access
-    ensures { λ r. ⌜ r ≡ readAnswer (now (memory .entry)) latches address ⌝ }
+// A read changes nothing. Refusals 12, 1, 7, 13.
+pub fn read(memory: &[u8], profile: u8, latches: Latches, address: u16) -> Access
+    ensures { λ r. ⌜ r ≡ readAnswer (now (memory .entry)) profile latches address ⌝ }
 {
-    let status = access_refusal(memory.len(), latches.kind);
+    let status = access_refusal(profile, memory.len(), latches.kind);
     if status != DONE {
         return Access {
             status,
@@ -42,7 +43,7 @@ pub fn read(memory: &[u8], latches: Latches, address: u16) -> Access
             byte: 0,
         };
     }
-    let reached = reach(latches, address);
+    let reached = reach(profile, latches, address);
     let byte = fetch(memory, reached);
     Access {
         status,
@@ -52,12 +53,12 @@ pub fn read(memory: &[u8], latches: Latches, address: u16) -> Access
     }
 }
 
-// A write stores at most one byte, or sets one latch. Refusals 1, 7.
-pub fn write(memory: &mut [u8], latches: Latches, address: u16, byte: u8) -> Written
-    ensures { λ r. ⌜ r ≡ written (writeAnswer (now (memory .entry)) latches address) (writeLatches (now (memory .entry)) latches address byte) ⌝ }
-    ensures { λ r. ⌜ now (memory .exit) ≡ writeContents (now (memory .entry)) latches address byte ⌝ }
+// A write stores at most one byte, or sets one latch. Refusals 12, 1, 7, 13.
+pub fn write(memory: &mut [u8], profile: u8, latches: Latches, address: u16, byte: u8) -> Written
+    ensures { λ r. ⌜ r ≡ written (writeAnswer (now (memory .entry)) profile latches address) (writeLatches (now (memory .entry)) profile latches address byte) ⌝ }
+    ensures { λ r. ⌜ now (memory .exit) ≡ writeContents (now (memory .entry)) profile latches address byte ⌝ }
 {
-    let status = access_refusal(memory.len(), latches.kind);
+    let status = access_refusal(profile, memory.len(), latches.kind);
     if status != DONE {
         return Written {
             status,
@@ -67,7 +68,7 @@ pub fn write(memory: &mut [u8], latches: Latches, address: u16, byte: u8) -> Wri
             latches,
         };
     }
-    let reached = reach(latches, address);
+    let reached = reach(profile, latches, address);
     store(memory, reached, byte);
     let after = latches.after_write(address, byte);
     Written {
@@ -79,14 +80,15 @@ pub fn write(memory: &mut [u8], latches: Latches, address: u16, byte: u8) -> Wri
     }
 }
 
-fn access_refusal(size: usize, kind: u8) -> u8
-    ensures { λ r. ⌜ r ≡ accessRefusal size kind ⌝ }
+fn access_refusal(profile: u8, size: usize, kind: u8) -> u8
+    ensures { λ r. ⌜ r ≡ accessRefusal profile size kind ⌝ }
 {
-    memory_refusal(size, kind_refusal(kind, DONE))
+    let wrong_controller = kind_refusal(kind, controller_refusal(profile, kind, DONE));
+    profile_refusal(profile, memory_refusal(profile, size, wrong_controller))
 }
 
 fn fetch(memory: &[u8], reached: Place) -> u8
-    requires { ⌜ IsImage (now memory) ⌝ }
+    requires { ⌜ Held (now memory) reached ⌝ }
     ensures { λ r. ⌜ r ≡ fetched (now (memory .entry)) reached ⌝ }
 {
     if is_memory(reached) {
@@ -98,7 +100,7 @@ fn fetch(memory: &[u8], reached: Place) -> u8
 }
 
 fn store(memory: &mut [u8], reached: Place, byte: u8)
-    requires { ⌜ IsImage (now memory) ⌝ }
+    requires { ⌜ Held (now memory) reached ⌝ }
     ensures { λ r. ⌜ now (memory .exit) ≡ stored (now (memory .entry)) reached byte ⌝ }
 {
     if is_memory(reached) {

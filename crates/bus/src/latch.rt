@@ -2,8 +2,7 @@
 ghost use mathlib.Core.Path.{_≡_};
 ghost use mathlib.Core.Bool.{cond};
 ghost use Rattle.bus.specs.Latch.{freshLatches, isFirstLatch, isSecondLatch, latchesAfter};
-
-pub const KIND_NONE: u8 = 0;
+use machine::KIND_NONE;
 
 pub const KIND_MICRODISC: u8 = 1;
 

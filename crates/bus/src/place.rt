@@ -2,12 +2,15 @@
 ghost use mathlib.Core.Path.{_≡_};
 ghost use Prim.Native.Nat.{_≤_, _<_};
 ghost use Rattle.machine.specs.Bits.{bit};
-ghost use Rattle.bus.specs.Place.{ram, via, controller, basicRom, overlayRam, bootEprom, unassigned, withoutController, microdiscUpper, withMicrodisc, jasminUpper, withJasmin, place, decodeAnswer};
+ghost use Rattle.bus.specs.Place.{ram, via, controller, basicRom, overlayRam, bootEprom, unassigned, withoutController, microdiscUpper, withMicrodisc, jasminUpper, withJasmin, place, decodeRefusal, decodeAnswer};
 use crate::latch::KIND_JASMIN;
 use crate::latch::KIND_MICRODISC;
 use crate::latch::Latches;
 use machine::DONE;
+use machine::controller_refusal;
+use machine::fold;
 use machine::kind_refusal;
+use machine::profile_refusal;
 
 pub const TARGET_RAM: u8 = 0;
 
@@ -54,11 +57,11 @@ pub(crate) struct Place {
     pub number: u16,
 }
 
-// Which target an address reaches. Refusal 7.
-pub fn decode(latches: Latches, address: u16) -> Decoded
-    ensures { λ r. ⌜ r ≡ decodeAnswer latches address ⌝ }
+// Which target an address reaches. Refusals 12, 7, 13.
+pub fn decode(profile: u8, latches: Latches, address: u16) -> Decoded
+    ensures { λ r. ⌜ r ≡ decodeAnswer profile latches address ⌝ }
 {
-    let status = kind_refusal(latches.kind, DONE);
+    let status = decode_refusal(profile, latches.kind);
     if status != DONE {
         return Decoded {
             status,
@@ -66,7 +69,7 @@ pub fn decode(latches: Latches, address: u16) -> Decoded
             number: 0,
         };
     }
-    let reached = reach(latches, address);
+    let reached = reach(profile, latches, address);
     Decoded {
         status,
         target: reached.target,
@@ -74,47 +77,56 @@ pub fn decode(latches: Latches, address: u16) -> Decoded
     }
 }
 
-pub(crate) fn reach(latches: Latches, address: u16) -> Place
-    ensures { λ r. ⌜ r ≡ place latches address ⌝ }
+fn decode_refusal(profile: u8, kind: u8) -> u8
+    ensures { λ r. ⌜ r ≡ decodeRefusal profile kind ⌝ }
+{
+    profile_refusal(
+        profile,
+        kind_refusal(kind, controller_refusal(profile, kind, DONE)),
+    )
+}
+
+pub(crate) fn reach(profile: u8, latches: Latches, address: u16) -> Place
+    ensures { λ r. ⌜ r ≡ place profile latches address ⌝ }
 {
     let kind = latches.kind;
     match kind {
-        KIND_MICRODISC => reach_with_microdisc(latches.first, address),
-        KIND_JASMIN => reach_with_jasmin(latches.first, latches.second, address),
-        _ => reach_without_controller(address),
+        KIND_MICRODISC => reach_with_microdisc(profile, latches.first, address),
+        KIND_JASMIN => reach_with_jasmin(profile, latches.first, latches.second, address),
+        _ => reach_without_controller(profile, address),
     }
 }
 
-fn reach_without_controller(address: u16) -> Place
-    ensures { λ r. ⌜ r ≡ withoutController address ⌝ }
+fn reach_without_controller(profile: u8, address: u16) -> Place
+    ensures { λ r. ⌜ r ≡ withoutController profile address ⌝ }
 {
     match address {
         0x0300..=0x03FF => to_via(address),
         0xC000..=0xFFFF => to_basic_rom(address),
-        _ => to_ram(address),
+        _ => to_ram(profile, address),
     }
 }
 
-fn reach_with_microdisc(latch: u8, address: u16) -> Place
-    ensures { λ r. ⌜ r ≡ withMicrodisc latch address ⌝ }
+fn reach_with_microdisc(profile: u8, latch: u8, address: u16) -> Place
+    ensures { λ r. ⌜ r ≡ withMicrodisc profile latch address ⌝ }
 {
     match address {
         0x0310..=0x0314 | 0x0318 => to_controller(address),
         0x0310..=0x031F => to_unassigned(address),
         0x0300..=0x03FF => to_via(address),
         0xC000..=0xFFFF => microdisc_upper(latch, address),
-        _ => to_ram(address),
+        _ => to_ram(profile, address),
     }
 }
 
-fn reach_with_jasmin(first: u8, second: u8, address: u16) -> Place
-    ensures { λ r. ⌜ r ≡ withJasmin first second address ⌝ }
+fn reach_with_jasmin(profile: u8, first: u8, second: u8, address: u16) -> Place
+    ensures { λ r. ⌜ r ≡ withJasmin profile first second address ⌝ }
 {
     match address {
         0x03F4..=0x03FF => to_controller(address),
         0x0300..=0x03FF => to_via(address),
         0xC000..=0xFFFF => jasmin_upper(first, second, address),
-        _ => to_ram(address),
+        _ => to_ram(profile, address),
     }
 }
 
@@ -151,12 +163,13 @@ fn is_set(weight: u8, latch: u8) -> bool
     latch / weight % 2 == 1
 }
 
-fn to_ram(address: u16) -> Place
-    ensures { λ r. ⌜ r ≡ ram address ⌝ }
+// Only RAM is mirrored: no other target's number is folded.
+fn to_ram(profile: u8, address: u16) -> Place
+    ensures { λ r. ⌜ r ≡ ram profile address ⌝ }
 {
     Place {
         target: TARGET_RAM,
-        number: address,
+        number: fold(profile, address as usize) as u16,
     }
 }
 

@@ -3,6 +3,8 @@
 use crate::mixing;
 use crate::report;
 use bus::Latches;
+use machine::PROFILE_16K;
+use machine::PROFILE_48K;
 
 const TARGETS: usize = 7;
 
@@ -18,36 +20,43 @@ pub(crate) fn settings() {
 }
 
 fn without_controller() {
-    setting(bus::KIND_NONE, 0, 0);
-    setting(bus::KIND_NONE, 255, 255);
+    setting(PROFILE_48K, bus::KIND_NONE, 0, 0);
+    setting(PROFILE_48K, bus::KIND_NONE, 255, 255);
+}
+
+// The 16K machine has no controller.
+pub(crate) fn settings_16k() {
+    setting(PROFILE_16K, bus::KIND_NONE, 0, 0);
+    setting(PROFILE_16K, bus::KIND_NONE, 255, 255);
 }
 
 fn microdisc() {
-    setting(bus::KIND_MICRODISC, 0, 0);
-    setting(bus::KIND_MICRODISC, 2, 0);
-    setting(bus::KIND_MICRODISC, 128, 0);
-    setting(bus::KIND_MICRODISC, 130, 0);
-    setting(bus::KIND_MICRODISC, 253, 0);
-    setting(bus::KIND_MICRODISC, 125, 255);
+    setting(PROFILE_48K, bus::KIND_MICRODISC, 0, 0);
+    setting(PROFILE_48K, bus::KIND_MICRODISC, 2, 0);
+    setting(PROFILE_48K, bus::KIND_MICRODISC, 128, 0);
+    setting(PROFILE_48K, bus::KIND_MICRODISC, 130, 0);
+    setting(PROFILE_48K, bus::KIND_MICRODISC, 253, 0);
+    setting(PROFILE_48K, bus::KIND_MICRODISC, 125, 255);
 }
 
 fn jasmin() {
-    setting(bus::KIND_JASMIN, 0, 0);
-    setting(bus::KIND_JASMIN, 1, 0);
-    setting(bus::KIND_JASMIN, 0, 1);
-    setting(bus::KIND_JASMIN, 1, 1);
-    setting(bus::KIND_JASMIN, 254, 254);
-    setting(bus::KIND_JASMIN, 255, 254);
-    setting(bus::KIND_JASMIN, 254, 255);
+    setting(PROFILE_48K, bus::KIND_JASMIN, 0, 0);
+    setting(PROFILE_48K, bus::KIND_JASMIN, 1, 0);
+    setting(PROFILE_48K, bus::KIND_JASMIN, 0, 1);
+    setting(PROFILE_48K, bus::KIND_JASMIN, 1, 1);
+    setting(PROFILE_48K, bus::KIND_JASMIN, 254, 254);
+    setting(PROFILE_48K, bus::KIND_JASMIN, 255, 254);
+    setting(PROFILE_48K, bus::KIND_JASMIN, 254, 255);
 }
 
-fn setting(kind: u8, first: u8, second: u8) {
+fn setting(profile: u8, kind: u8, first: u8, second: u8) {
     let latches = Latches {
         kind,
         first,
         second,
     };
-    let tally = decode_all(latches);
+    let tally = decode_all(profile, latches);
+    report::machine(profile);
     report::field(b"decode kind ", kind as u64);
     report::field(b" first ", first as u64);
     report::field(b" second ", second as u64);
@@ -71,14 +80,14 @@ fn write_count(target: usize, count: u64) {
     report::field(b" ", count);
 }
 
-fn decode_all(latches: Latches) -> Tally {
+fn decode_all(profile: u8, latches: Latches) -> Tally {
     let mut tally = Tally {
         counts: [0; 7],
         digest: mixing::digest_start(),
     };
     let mut address: u32 = 0;
     while address < 65_536 {
-        tally = tally.with(bus::decode(latches, (address % 65_536) as u16));
+        tally = tally.with(bus::decode(profile, latches, (address % 65_536) as u16));
         address += 1;
     }
     tally

@@ -3,7 +3,12 @@ use crate::mixing;
 use crate::report;
 use machine::FRAME_LENGTH;
 use machine::IMAGE_LENGTH;
+use machine::IMAGE_LENGTH_16K;
+use machine::PROFILE_16K;
+use machine::PROFILE_48K;
 use video::State;
+
+const KINDS: u8 = 4;
 
 const RANDOM: u8 = 0;
 
@@ -11,28 +16,47 @@ const ATTRIBUTES: u8 = 1;
 
 const TEXT: u8 = 2;
 
-pub(crate) fn frames() {
+pub(crate) fn frames(profile: u8) {
     let mut i: u8 = 0;
     while i < 255 {
-        frame(i);
+        frame(profile, i);
         i += 1;
     }
-    frame(255);
+    frame(profile, 255);
 }
 
-fn frame(i: u8) {
-    let kind = i % 4;
+fn frame(profile: u8, i: u8) {
+    if profile == PROFILE_16K {
+        frame_16k(i);
+    } else {
+        frame_48k(i);
+    }
+}
+
+fn frame_48k(i: u8) {
+    let mut image = [0u8; IMAGE_LENGTH];
+    fill(&mut image, i % KINDS, mixing::seed(i));
+    painted(PROFILE_48K, i, &image);
+}
+
+fn frame_16k(i: u8) {
+    let mut image = [0u8; IMAGE_LENGTH_16K];
+    fill(&mut image, i % KINDS, mixing::seed(i));
+    painted(PROFILE_16K, i, &image);
+}
+
+fn painted(profile: u8, i: u8, image: &[u8]) {
     let state = State {
         mode: i / 4 % 8,
         counter: counter_of(i / 32 % 4),
+        profile,
     };
-    let mut image = [0u8; IMAGE_LENGTH];
-    fill(&mut image, kind, mixing::seed(i));
     let mut pixels = [0u8; FRAME_LENGTH];
-    let answer = video::paint_frame(&image, state, &mut pixels);
+    let answer = video::paint_frame(image, state, &mut pixels);
     let after = answer.state;
+    report::machine(profile);
     report::field(b"image ", i as u64);
-    report::field(b" kind ", kind as u64);
+    report::field(b" kind ", (i % KINDS) as u64);
     report_state(state);
     report::field(b": status ", answer.status as u64);
     report_state(after);

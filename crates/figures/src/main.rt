@@ -1,14 +1,21 @@
-// The figures of document 01 that are run, the decode of every address, and digests of generated frames, a line each.
+// The figures of document 01 that are run, the decode of every address, and digests of generated frames, a line each; then the same
+// of the 16K machine.
 mod decoding;
 mod generated;
 mod mixing;
 mod painting;
 mod report;
 
+use machine::PROFILE_16K;
+use machine::PROFILE_48K;
+
 fn main() {
     painting::lines();
     painting::counters();
     painting::memories();
     decoding::settings();
-    generated::frames();
+    generated::frames(PROFILE_48K);
+    painting::profiles();
+    decoding::settings_16k();
+    generated::frames(PROFILE_16K);
 }

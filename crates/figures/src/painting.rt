@@ -2,7 +2,10 @@
 use crate::report;
 use machine::FRAME_LENGTH;
 use machine::IMAGE_LENGTH;
+use machine::IMAGE_LENGTH_16K;
 use machine::LINE_LENGTH;
+use machine::PROFILE_16K;
+use machine::PROFILE_48K;
 use video::State;
 
 pub(crate) fn lines() {
@@ -30,6 +33,7 @@ fn counter(count: u8) {
     let state = State {
         mode: 2,
         counter: count,
+        profile: PROFILE_48K,
     };
     let mut frame = [0u8; FRAME_LENGTH];
     let answer = video::paint_frame(&image, state, &mut frame);
@@ -42,15 +46,38 @@ fn counter(count: u8) {
 
 pub(crate) fn memories() {
     let bytes = [0u8; IMAGE_LENGTH + 1];
-    memory(&bytes[..0]);
-    memory(&bytes[..IMAGE_LENGTH - 1]);
-    memory(&bytes[..IMAGE_LENGTH]);
-    memory(&bytes);
+    memory(PROFILE_48K, &bytes[..0]);
+    memory(PROFILE_48K, &bytes[..IMAGE_LENGTH - 1]);
+    memory(PROFILE_48K, &bytes[..IMAGE_LENGTH]);
+    memory(PROFILE_48K, &bytes);
 }
 
-fn memory(image: &[u8]) {
+// Each profile takes its own length alone, and there are two profiles.
+pub(crate) fn profiles() {
+    let bytes = [0u8; IMAGE_LENGTH];
+    profile(PROFILE_16K, &bytes[..0]);
+    profile(PROFILE_16K, &bytes[..IMAGE_LENGTH_16K - 1]);
+    profile(PROFILE_16K, &bytes[..IMAGE_LENGTH_16K]);
+    profile(PROFILE_16K, &bytes[..IMAGE_LENGTH_16K + 1]);
+    profile(PROFILE_16K, &bytes);
+    profile(PROFILE_48K, &bytes[..IMAGE_LENGTH_16K]);
+    profile(2, &bytes);
+}
+
+fn profile(number: u8, image: &[u8]) {
+    report::profile(number);
+    memory(number, image);
+}
+
+fn memory(profile: u8, image: &[u8]) {
+    let fresh = video::fresh_state();
+    let state = State {
+        mode: fresh.mode,
+        counter: fresh.counter,
+        profile,
+    };
     let mut frame = [0u8; FRAME_LENGTH];
-    let answer = video::paint_frame(image, video::fresh_state(), &mut frame);
+    let answer = video::paint_frame(image, state, &mut frame);
     report::field(b"memory ", image.len() as u64);
     report::field(b": status ", answer.status as u64);
     report::end();

@@ -1,5 +1,6 @@
 // Writes what was called and what came back, a line each.
 use libc::STDOUT_FILENO;
+use machine::PROFILE_48K;
 
 pub(crate) fn text(part: &[u8]) {
     io::write_all(STDOUT_FILENO, part);
@@ -8,6 +9,18 @@ pub(crate) fn text(part: &[u8]) {
 pub(crate) fn field(name: &[u8], n: u64) {
     text(name);
     io::print_decimal(STDOUT_FILENO, n);
+}
+
+pub(crate) fn profile(profile: u8) {
+    field(b"profile ", profile as u64);
+    text(b" ");
+}
+
+// A line of the 48K machine does not name its profile.
+pub(crate) fn machine(profile: u8) {
+    if profile != PROFILE_48K {
+        self::profile(profile);
+    }
 }
 
 pub(crate) fn end() {

@@ -6,7 +6,7 @@ use Rattle.video.specs.declared.answer.Painted.{Painted}
 use Rattle.listing.specs.Text.{decimalIn, closingText, refusedText}
 
 abbrev zeros : Painted
-zeros = record { status = 0; state = record { mode = 2; counter = 1 }; screen = 8960; character = 0 }
+zeros = record { status = 0; state = record { mode = 2; counter = 1; profile = 0 }; screen = 8960; character = 0 }
 
 -- "mode 2 counter 1 screen 8960 character 0" and a line feed
 sample : closingText zeros

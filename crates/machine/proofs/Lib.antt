@@ -1,4 +1,6 @@
 pub mod Below
+pub mod Choice
 pub mod Each
+pub mod Folding
 pub mod Lists
 pub mod Refusals

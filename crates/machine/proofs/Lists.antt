@@ -1,7 +1,7 @@
 -- Laws of lists that are joined piece by piece, and of a list of which one piece is lent and comes back filled.
 -- Assumes nothing.
 use Prim.Native.Nat.{ℕ, zero, suc, _+_, _-_, _*_, _≤_, _<_}
-use mathlib.Core.List.{List, [], _∷_, _++_, append-assoc, map, flatMap, flatten}
+use mathlib.Core.List.{List, [], _∷_, _++_, append-assoc, map, map-append, flatMap, flatten}
 use mathlib.Core.Logic.{⊎-elim}
 use mathlib.Core.Path.{_≡_, refl, sym, ap, ap₂, _∙_}
 use native.Mathlib.Nat.{mul-suc, mul-le-mul-left, add-sub-cancel-left, eq-or-lt-of-le}
@@ -23,6 +23,14 @@ pub gather-same : {A : Type 0} (f g : ℕ → List A) (n : ℕ) → ((k : ℕ) �
 unfolding gather
 gather-same f g zero same = refl
 gather-same f g (suc n) same = ap₂ _++_ (gather-same f g n (λ k h. same k (omega arith))) (same n (omega arith))
+
+-- pieces whose elements are changed in one way
+pub gather-mapped : {A B : Type 0} (change : A → B) (f : ℕ → List A) (g : ℕ → List B) (n : ℕ) → ((k : ℕ) → k < n → g k ≡ map change (f k))
+    → gather g n ≡ map change (gather f n)
+unfolding gather
+gather-mapped change f g zero changed = refl
+gather-mapped change f g (suc n) changed =
+    ap₂ _++_ (gather-mapped change f g n (λ k h. changed k (omega arith))) (changed n (omega arith)) ∙ sym (map-append change (gather f n) (f n))
 
 -- pieces of one size
 module _ {A : Type 0} (f : ℕ → List A) (size : ℕ) (sized : (k : ℕ) → length (f k) ≡ size) where

@@ -6,9 +6,9 @@ use mathlib.Core.Path.{_≡_, refl, ap, subst, _∙_}
 use native.Mathlib.Omega.{arith}
 use lib.Dec.{T, eqb, leb, ltb}
 use borrow.Author.Tests.{eq-eqb, eqb-true, leb-false, ltb-false, not-false}
-use Rattle.machine.specs.Image.{imageLength}
-use Rattle.machine.specs.Refusal.{given, ifDone, memoryCheck, outputCheck, modeCheck, counterCheck, lineCheck, columnCheck, kindCheck}
-use Rattle.machine.specs.Sizes.{columns, lines, lastMode, lastCount, lastKind}
+use Rattle.machine.specs.Image.{is16K, imageLength}
+use Rattle.machine.specs.Refusal.{given, ifDone, memoryCheck, outputCheck, modeCheck, counterCheck, lineCheck, columnCheck, kindCheck, profileCheck, controllerCheck}
+use Rattle.machine.specs.Sizes.{columns, lines, lastMode, lastCount, lastKind, lastProfile}
 
 pub done : {A : Type 0} (n : ℕ) (a b : A) → n ≡ 0 → ifDone n a b ≡ a
 done zero a b e = refl
@@ -51,8 +51,8 @@ module _ (number later : ℕ) (numbered : T (not (eqb number 0))) where
 
 -- what each test has shown where it was passed
 module _ (later : ℕ) where
-  pub memory-passed : (size : ℕ) → given (memoryCheck size) later ≡ 0 → Passed (size ≡ imageLength) later
-  memory-passed size = equal 1 later tt imageLength size
+  pub memory-passed : (profile size : ℕ) → given (memoryCheck profile size) later ≡ 0 → Passed (size ≡ imageLength profile) later
+  memory-passed profile size = equal 1 later tt (imageLength profile) size
 
   pub output-passed : (wanted size : ℕ) → given (outputCheck wanted size) later ≡ 0 → Passed (size ≡ wanted) later
   output-passed wanted size = equal 2 later tt wanted size
@@ -71,3 +71,15 @@ module _ (later : ℕ) where
 
   pub kind-passed : (kind : ℕ) → given (kindCheck kind) later ≡ 0 → Passed (kind ≤ lastKind) later
   kind-passed kind = at-most 7 later tt lastKind kind
+
+  pub profile-passed : (profile : ℕ) → given (profileCheck profile) later ≡ 0 → Passed (profile ≤ lastProfile) later
+  profile-passed profile = at-most 12 later tt lastProfile profile
+
+  pub controller-passed : (profile kind : ℕ) → given (controllerCheck profile kind) later ≡ 0
+      → Passed (is16K profile ≡ true → kind ≡ 0) later
+  controller-passed profile kind e =
+      let p = unapplied (controllerCheck profile kind .applies) 13 later tt e in
+      record {
+        holds = λ small. eqb-true kind 0 (not-false _ (simp small at (p .holds)));
+        rest = p .rest;
+      }

@@ -1,11 +1,11 @@
 -- The refusals: their numbers, when each is given, and which of several.
 -- Assumes nothing.
 use Prim.Native.Nat.{ℕ, zero, suc}
-use mathlib.Core.Bool.{Bool, cond, not}
+use mathlib.Core.Bool.{Bool, cond, not, _&&_}
 use mathlib.Core.List.{List, [], _∷_}
 use lib.Dec.{eqb, leb, ltb}
-use Rattle.machine.specs.Image.{imageLength}
-use Rattle.machine.specs.Sizes.{columns, lines, lastMode, lastCount, lastKind}
+use Rattle.machine.specs.Image.{is16K, imageLength}
+use Rattle.machine.specs.Sizes.{columns, lines, lastMode, lastCount, lastKind, lastProfile}
 
 -- one refusal of the table: its number, and whether it applies to what was given
 pub record Check : Type 0 where
@@ -25,9 +25,9 @@ refusalBefore (check ∷ checks) later = given check (refusalBefore checks later
 abbrev pub refusal : List Check → ℕ
 refusal checks = refusalBefore checks 0
 
--- 1: the memory is not 65,536 bytes
-abbrev pub memoryCheck : ℕ → Check
-memoryCheck size = record { number = 1; applies = not (eqb size imageLength) }
+-- 1: the memory has not the length of the profile
+abbrev pub memoryCheck : ℕ → ℕ → Check
+memoryCheck profile size = record { number = 1; applies = not (eqb size (imageLength profile)) }
 
 -- 2: what is lent to be filled has not the length that is wanted
 abbrev pub outputCheck : ℕ → ℕ → Check
@@ -52,6 +52,14 @@ columnCheck column = record { number = 6; applies = leb columns column }
 -- 7: the controller kind is above 2
 abbrev pub kindCheck : ℕ → Check
 kindCheck kind = record { number = 7; applies = ltb lastKind kind }
+
+-- 12: the profile is above 1
+abbrev pub profileCheck : ℕ → Check
+profileCheck profile = record { number = 12; applies = ltb lastProfile profile }
+
+-- 13: the 16K machine with a controller
+abbrev pub controllerCheck : ℕ → ℕ → Check
+controllerCheck profile kind = record { number = 13; applies = is16K profile && not (eqb kind 0) }
 
 -- what is given or left: the first where the status is 0, the second where it is a refusal
 abbrev pub ifDone : {A : Type 0} → ℕ → A → A → A

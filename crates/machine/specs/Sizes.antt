@@ -33,3 +33,7 @@ lastCount = 31
 -- controller kinds are 0 to 2
 abbrev pub lastKind : ℕ
 lastKind = 2
+
+-- profiles are 0, the 48K machine, and 1, the 16K machine
+abbrev pub lastProfile : ℕ
+lastProfile = 1

@@ -2,20 +2,25 @@
 // inputs in its own order.
 ghost use mathlib.Core.Path.{_≡_};
 ghost use mathlib.Core.Bool.{cond};
-ghost use Rattle.machine.specs.Refusal.{given, memoryCheck, outputCheck, modeCheck, counterCheck, lineCheck, columnCheck, kindCheck};
+ghost use Rattle.machine.specs.Refusal.{given, memoryCheck, outputCheck, modeCheck, counterCheck, lineCheck, columnCheck, kindCheck, profileCheck, controllerCheck};
 use crate::COLUMNS;
-use crate::IMAGE_LENGTH;
+use crate::KIND_NONE;
 use crate::LAST_COUNT;
 use crate::LAST_KIND;
 use crate::LAST_MODE;
+use crate::LAST_PROFILE;
 use crate::LINES;
 use crate::REFUSED_COLUMN;
+use crate::REFUSED_CONTROLLER;
 use crate::REFUSED_COUNTER;
 use crate::REFUSED_KIND;
 use crate::REFUSED_LINE;
 use crate::REFUSED_MEMORY;
 use crate::REFUSED_MODE;
 use crate::REFUSED_OUTPUT;
+use crate::REFUSED_PROFILE;
+use crate::image::image_length;
+use crate::image::is_16k;
 
 fn refuse_if(applies: bool, number: u8, later: u8) -> u8
     ensures { λ r. ⌜ r ≡ cond applies number later ⌝ }
@@ -23,10 +28,10 @@ fn refuse_if(applies: bool, number: u8, later: u8) -> u8
     if applies { number } else { later }
 }
 
-pub fn memory_refusal(size: usize, later: u8) -> u8
-    ensures { λ r. ⌜ r ≡ given (memoryCheck size) later ⌝ }
+pub fn memory_refusal(profile: u8, size: usize, later: u8) -> u8
+    ensures { λ r. ⌜ r ≡ given (memoryCheck profile size) later ⌝ }
 {
-    refuse_if(size != IMAGE_LENGTH, REFUSED_MEMORY, later)
+    refuse_if(size != image_length(profile), REFUSED_MEMORY, later)
 }
 
 pub fn output_refusal(wanted: usize, size: usize, later: u8) -> u8
@@ -63,4 +68,20 @@ pub fn kind_refusal(kind: u8, later: u8) -> u8
     ensures { λ r. ⌜ r ≡ given (kindCheck kind) later ⌝ }
 {
     refuse_if(kind > LAST_KIND, REFUSED_KIND, later)
+}
+
+pub fn profile_refusal(profile: u8, later: u8) -> u8
+    ensures { λ r. ⌜ r ≡ given (profileCheck profile) later ⌝ }
+{
+    refuse_if(profile > LAST_PROFILE, REFUSED_PROFILE, later)
+}
+
+pub fn controller_refusal(profile: u8, kind: u8, later: u8) -> u8
+    ensures { λ r. ⌜ r ≡ given (controllerCheck profile kind) later ⌝ }
+{
+    refuse_if(
+        is_16k(profile) & (kind != KIND_NONE),
+        REFUSED_CONTROLLER,
+        later,
+    )
 }

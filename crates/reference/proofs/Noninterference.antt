@@ -21,7 +21,7 @@ use Rattle.bus.proofs.Stores.{steps-keep, steps-sized}
 use Rattle.reference.specs.Noninterference.{PaintSame, ShowSame, NoninterferenceHolds}
 
 -- a frame of its length is painted: what the program answers and leaves
-done : (image : Image) (state : State) (frame : List ℕ) → IsImage image → Within state → length frame ≡ frameLength
+done : (image : Image) (state : State) (frame : List ℕ) → IsImage (state .profile) image → Within state → length frame ≡ frameLength
     → (painted (afterFrame state) (frameCells image state) ≡ frameAnswer image state frame)
     × (pixels (frameCells image state) ≡ frameContents image state frame)
 unfolding frameAnswer frameContents
@@ -30,7 +30,7 @@ done image state frame sized within lent =
     (frame-accepted image state frame sized within lent)
 
 -- the same cells show the same
-module _ (first second : Image) (state : State) (sized : IsImage first) (sized-too : IsImage second) (within : Within state) where
+module _ (first second : Image) (state : State) (sized : IsImage (state .profile) first) (sized-too : IsImage (state .profile) second) (within : Within state) where
   paint-same : frameCells second state ≡ frameCells first state → (lent other : List ℕ) → length lent ≡ frameLength → length other ≡ frameLength
       → PaintSame first second state lent other
   paint-same e lent other l o =
@@ -54,6 +54,6 @@ noninterference first state image within =
       regions = (modes-carry first state, regions-hold first state);
       accesses = λ latches steps apart.
           let after = boardAfter (record { memory = first; latches = latches }) steps .memory in
-          cells-show first after state image (steps-sized steps first latches image) within
-          (frame-by-used-bytes first after state (λ address m. sym (steps-keep steps first latches address image (apart address m))));
+          cells-show first after state image (steps-sized steps first latches ∙ image) within
+          (frame-by-used-bytes first after state (λ address m. sym (steps-keep steps first latches address (apart address m))));
     }

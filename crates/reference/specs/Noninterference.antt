@@ -41,13 +41,13 @@ Apart xs ys = Each (λ (x : ℕ). Each (λ (y : ℕ). x ≡ y → ⊥) ys) xs
 -- the three parts, for an image and a start state
 pub record Noninterference (first : Image) (state : State) : Type 0 where
   -- an image that agrees at every used address shows the same
-  pub images : (second : Image) → IsImage second → Agree first second (used (frameCells first state)) → ShowSame first second state
-  -- every cell uses addresses in the regions of its line and the mode in force there
-  pub regions : InForce (state .mode) (frameCells first state) × Each Placed (frameCells first state)
-  -- a list of accesses that stores at no used address leaves a memory that shows the same
-  pub accesses : (latches : Latches) (steps : List Step) → Apart (used (frameCells first state)) (stores latches steps)
+  pub images : (second : Image) → IsImage (state .profile) second → Agree first second (used (frameCells first state)) → ShowSame first second state
+  -- every cell uses addresses in the folded regions of its line and the mode in force there
+  pub regions : InForce (state .mode) (frameCells first state) × Each (Placed (state .profile)) (frameCells first state)
+  -- a list of accesses, each with a profile of its own, that stores at no used address leaves a memory that shows the same
+  pub accesses : (latches : Latches) (steps : List Step) → Apart (used (frameCells first state)) (stores (length first) latches steps)
       → ShowSame first (boardAfter (record { memory = first; latches = latches }) steps .memory) state
 
--- for every image of 65,536 bytes and every start state within its limits
+-- for every start state within its limits, of either profile, and every image of the profile's length
 abbrev pub NoninterferenceHolds : Type 0
-NoninterferenceHolds = (first : Image) (state : State) → IsImage first → Within state → Noninterference first state
+NoninterferenceHolds = (first : Image) (state : State) → IsImage (state .profile) first → Within state → Noninterference first state

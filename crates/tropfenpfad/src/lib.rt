@@ -21,10 +21,15 @@ pub extern "C" fn tropfenpfad_fresh_state() -> State
 }
 
 #[no_mangle]
-pub extern "C" fn tropfenpfad_screen_address(line: usize, column: usize, mode: u8) -> Address
-    ensures { λ r. ⌜ r ≡ addressAnswer line column mode ⌝ }
+pub extern "C" fn tropfenpfad_screen_address(
+    profile: u8,
+    line: usize,
+    column: usize,
+    mode: u8,
+) -> Address
+    ensures { λ r. ⌜ r ≡ addressAnswer profile line column mode ⌝ }
 {
-    video::screen_address(line, column, mode)
+    video::screen_address(profile, line, column, mode)
 }
 
 #[no_mangle]
@@ -56,42 +61,49 @@ pub extern "C" fn tropfenpfad_fresh_latches() -> Latches
 }
 
 #[no_mangle]
-pub extern "C" fn tropfenpfad_decode(latches: Latches, address: u16) -> Decoded
-    ensures { λ r. ⌜ r ≡ decodeAnswer latches address ⌝ }
+pub extern "C" fn tropfenpfad_decode(profile: u8, latches: Latches, address: u16) -> Decoded
+    ensures { λ r. ⌜ r ≡ decodeAnswer profile latches address ⌝ }
 {
-    bus::decode(latches, address)
+    bus::decode(profile, latches, address)
 }
 
 #[no_mangle]
-pub extern "C" fn tropfenpfad_read(memory: &[u8], latches: Latches, address: u16) -> Access
-    ensures { λ r. ⌜ r ≡ readAnswer (now (memory .entry)) latches address ⌝ }
+pub extern "C" fn tropfenpfad_read(
+    memory: &[u8],
+    profile: u8,
+    latches: Latches,
+    address: u16,
+) -> Access
+    ensures { λ r. ⌜ r ≡ readAnswer (now (memory .entry)) profile latches address ⌝ }
 {
-    bus::read(memory, latches, address)
+    bus::read(memory, profile, latches, address)
 }
 
 #[no_mangle]
 pub extern "C" fn tropfenpfad_write(
     memory: &mut [u8],
+    profile: u8,
     latches: Latches,
     address: u16,
     byte: u8,
 ) -> Written
-    ensures { λ r. ⌜ r ≡ written (writeAnswer (now (memory .entry)) latches address) (writeLatches (now (memory .entry)) latches address byte) ⌝ }
-    ensures { λ r. ⌜ now (memory .exit) ≡ writeContents (now (memory .entry)) latches address byte ⌝ }
+    ensures { λ r. ⌜ r ≡ written (writeAnswer (now (memory .entry)) profile latches address) (writeLatches (now (memory .entry)) profile latches address byte) ⌝ }
+    ensures { λ r. ⌜ now (memory .exit) ≡ writeContents (now (memory .entry)) profile latches address byte ⌝ }
 {
-    bus::write(memory, latches, address, byte)
+    bus::write(memory, profile, latches, address, byte)
 }
 
 #[no_mangle]
 pub extern "C" fn tropfenpfad_write_in_place(
     memory: &mut [u8],
+    profile: u8,
     latches: &mut Latches,
     address: u16,
     byte: u8,
 ) -> Access
-    ensures { λ r. ⌜ r ≡ writeAnswer (now (memory .entry)) (now (latches .entry)) address ⌝ }
-    ensures { λ r. ⌜ now (memory .exit) ≡ writeContents (now (memory .entry)) (now (latches .entry)) address byte ⌝ }
-    ensures { λ r. ⌜ now (latches .exit) ≡ writeLatches (now (memory .entry)) (now (latches .entry)) address byte ⌝ }
+    ensures { λ r. ⌜ r ≡ writeAnswer (now (memory .entry)) profile (now (latches .entry)) address ⌝ }
+    ensures { λ r. ⌜ now (memory .exit) ≡ writeContents (now (memory .entry)) profile (now (latches .entry)) address byte ⌝ }
+    ensures { λ r. ⌜ now (latches .exit) ≡ writeLatches (now (memory .entry)) profile (now (latches .entry)) address byte ⌝ }
 {
-    bus::write_in_place(memory, latches, address, byte)
+    bus::write_in_place(memory, profile, latches, address, byte)
 }

@@ -1,34 +1,81 @@
--- Every address that a cell uses lies in its region, below C000.
--- By the cases of the table: lines 0 to 199 or below them, text or hires.
+-- Every address that a cell uses lies in its region, inside the image: by the cases of the table, lines 0 to 199 or below them, text or
+-- hires, and then folded, since no region crosses a border of 16K.
 -- Assumes nothing.
-use Prim.Native.Nat.{ℕ, _<_, _≤_, _/_, _%_}
-use mathlib.Core.Bool.{Bool, true, false, true≢false}
+use Prim.Native.Nat.{ℕ, _+_, _*_, _<_, _≤_, _/_, _%_}
+use mathlib.Core.Bool.{Bool, true, false, cond, true≢false}
+use mathlib.Core.Option.{Option, none, some}
 use mathlib.Core.Path.{_≡_, refl}
 use native.Mathlib.Omega.{arith}
 use lib.Dec.{ltb}
 use borrow.Author.Tests.{ltb-true, ltb-false}
 use Rattle.machine.specs.Bits.{bit}
+use Rattle.machine.specs.Image.{is16K, blockLength, imageLength, folded}
 use Rattle.machine.specs.Sizes.{columns, lines}
-use Rattle.video.specs.Address.{isHires, isBitmap, bitmapLines, screenAddress, alternateOffset, characterRow, characterAddress}
-use Rattle.video.specs.Region.{In, screenRegion, definitionRegion}
-use Rattle.video.proofs.Choice.{cond-most}
+use Rattle.machine.proofs.Choice.{cond-all, cond-most}
+use Rattle.machine.proofs.Folding.{folded-most, folded-inside, folded-sum}
+use Rattle.video.specs.Address.{isHires, isBitmap, bitmapLines, textStart, hiresStart, screenAddress, characterSet, alternateOffset, characterRow, characterAddress}
+use Rattle.video.specs.Laws.{RegionsInOneBlock, RegionsFold}
+use Rattle.video.specs.Region.{Region, In, InOneBlock, foldedRegion, screenRegion, definitionRegion}
 
-module _ (line column mode : ℕ) (hl : line < lines) (hc : column < columns) where
+-- the block from 8000 to BFFF, in which all used addresses of the table lie
+abbrev pub InBlock : ℕ → Type 0
+InBlock address = (0x8000 ≤ address) × (address < 0xC000)
+
+pub regions-in-one-block : RegionsInOneBlock
+regions-in-one-block line mode = go (ltb line bitmapLines) (isHires mode) refl refl
+  where
+    go : (upper hires : Bool) → ltb line bitmapLines ≡ upper → isHires mode ≡ hires
+        → InOneBlock (screenRegion line mode) × InOneBlock (definitionRegion line mode)
+    go true true u h = simp (u, h) (refl, tt)
+    go true false u h = simp (u, h) (refl, refl)
+    go false true u h = simp (u, h) (refl, refl)
+    go false false u h = simp (u, h) (refl, refl)
+
+pub regions-fold : RegionsFold
+regions-fold profile none block = (λ address h. absurd h, λ address h. absurd h)
+regions-fold profile (some region) block = go (is16K profile) refl
+  where
+    go : (small : Bool) → is16K profile ≡ small
+        → ((address : ℕ) → In (some region) address → In (foldedRegion profile (some region)) (folded profile address))
+        × ((address : ℕ) → In (foldedRegion profile (some region)) address → (origin : ℕ) × In (some region) origin × (folded profile origin ≡ address))
+    go true e =
+        simp e
+        (λ address h. omega arith, λ address h. (region .first / blockLength * blockLength + address, omega arith, omega arith))
+    go false e = simp e (λ address h. h, λ address h. (address, h, refl))
+
+module _ (profile line column mode : ℕ) (hl : line < lines) (hc : column < columns) where
   screen-case : (upper hires : Bool) → ltb line bitmapLines ≡ upper → isHires mode ≡ hires
-      → In (screenRegion line mode) (screenAddress line column mode) × (screenAddress line column mode < 0xC000)
+      → In (screenRegion line mode) (screenAddress 0 line column mode) × InBlock (screenAddress 0 line column mode)
   screen-case true true u h = simp (u, h) (omega (arith, ltb-true line bitmapLines u))
   screen-case true false u h = simp (u, h) (omega (arith, ltb-true line bitmapLines u))
   screen-case false true u h = simp (u, h) (omega (arith, ltb-false line bitmapLines u))
   screen-case false false u h = simp (u, h) (omega (arith, ltb-false line bitmapLines u))
 
   -- the screen byte of a cell
-  pub screen-in-region : In (screenRegion line mode) (screenAddress line column mode)
-  screen-in-region = screen-case (ltb line bitmapLines) (isHires mode) refl refl .0
+  pub screen-in-block : InBlock (screenAddress 0 line column mode)
+  screen-in-block = screen-case (ltb line bitmapLines) (isHires mode) refl refl .1
 
-  pub screen-below : screenAddress line column mode < 0xC000
-  screen-below = screen-case (ltb line bitmapLines) (isHires mode) refl refl .1
+  pub screen-in-region : In (foldedRegion profile (screenRegion line mode)) (screenAddress profile line column mode)
+  screen-in-region =
+      regions-fold profile (screenRegion line mode) (regions-in-one-block line mode .0) .0 (screenAddress 0 line column mode)
+      (screen-case (ltb line bitmapLines) (isHires mode) refl refl .0)
 
-module _ (line mode style code : ℕ) (hc : code < 128) where
+  pub screen-below : screenAddress profile line column mode < 0xC000
+  screen-below = omega (arith, folded-most profile (screenAddress 0 line column mode), screen-in-block)
+
+  pub screen-inside : screenAddress profile line column mode < imageLength profile
+  screen-inside = folded-inside profile (screenAddress 0 line column mode) (omega (arith, screen-in-block))
+
+-- the start of a line is folded, or the address of each of its cells
+pub start-folded : (profile line column mode : ℕ) → line < lines → column < columns
+    → folded profile (cond (isHires mode) (hiresStart line) (textStart line)) + column ≡ screenAddress profile line column mode
+start-folded profile line column mode hl hc =
+    let start = cond (isHires mode) (hiresStart line) (textStart line) in
+    let first : InBlock start = omega (arith, screen-in-block profile line 0 mode hl (omega arith)) in
+    let last : InBlock (start + column) = screen-in-block profile line column mode hl hc in
+    rw (folded-sum profile start column (omega arith))
+
+module _ (profile line mode style code : ℕ) (hc : code < 128) where
   row-most : characterRow line style ≤ 7
   row-most = cond-most (bit 2 style) (line / 2 % 8) (line % 8) (omega arith) (omega arith)
 
@@ -36,16 +83,39 @@ module _ (line mode style code : ℕ) (hc : code < 128) where
   offset-most = cond-most (bit 1 style) 0x400 0 (omega arith) (omega arith)
 
   -- any character byte of a set
-  pub characters-below : characterAddress line mode style code < 0xC000
-  characters-below = omega (arith, row-most, offset-most, cond-most (isHires mode) 0x9800 0xB400 {most = 0xB400} (omega arith) (omega arith))
+  pub characters-in-block : InBlock (characterAddress 0 line mode style code)
+  characters-in-block =
+      let set : (0x8000 ≤ characterSet mode) × (characterSet mode ≤ 0xB400) =
+      cond-all (λ (n : ℕ). (0x8000 ≤ n) × (n ≤ 0xB400)) (isHires mode) 0x9800 0xB400 (omega arith) (omega arith) in
+      omega (arith, row-most, offset-most)
+
+  pub characters-below : characterAddress profile line mode style code < 0xC000
+  characters-below = omega (arith, folded-most profile (characterAddress 0 line mode style code), characters-in-block)
+
+  pub characters-inside : characterAddress profile line mode style code < imageLength profile
+  characters-inside = folded-inside profile (characterAddress 0 line mode style code) (omega (arith, characters-in-block))
+
+  -- the set is folded, or the address of each of its bytes
+  pub set-folded : folded profile (characterSet mode) + alternateOffset style + 8 * code + characterRow line style
+      ≡ characterAddress profile line mode style code
+  set-folded =
+      let set : (0x8000 ≤ characterSet mode) × (characterSet mode ≤ 0xB400) =
+      cond-all (λ (n : ℕ). (0x8000 ≤ n) × (n ≤ 0xB400)) (isHires mode) 0x9800 0xB400 (omega arith) (omega arith) in
+      let offset = alternateOffset style + 8 * code + characterRow line style in
+      let sum = folded-sum profile (characterSet mode) offset (omega (arith, row-most, offset-most)) in
+      let shape : characterSet mode + alternateOffset style + 8 * code + characterRow line style ≡ characterSet mode + offset = omega arith in
+      rw (shape, sum) (omega arith)
 
   definition-case : (upper hires : Bool) → ltb line bitmapLines ≡ upper → isHires mode ≡ hires → isBitmap line mode ≡ false
-      → In (definitionRegion line mode) (characterAddress line mode style code)
-  definition-case true true u h none = absurd (true≢false (simp (u, h) at none))
-  definition-case true false u h none = simp (u, h) (omega (arith, row-most, offset-most))
-  definition-case false true u h none = simp (u, h) (omega (arith, row-most, offset-most))
-  definition-case false false u h none = simp (u, h) (omega (arith, row-most, offset-most))
+      → In (definitionRegion line mode) (characterAddress 0 line mode style code)
+  definition-case true true u h picture = absurd (true≢false (simp (u, h) at picture))
+  definition-case true false u h picture = simp (u, h) (omega (arith, row-most, offset-most))
+  definition-case false true u h picture = simp (u, h) (omega (arith, row-most, offset-most))
+  definition-case false false u h picture = simp (u, h) (omega (arith, row-most, offset-most))
 
   -- the character byte of a picture that shows no bitmap
-  pub definition-in-region : isBitmap line mode ≡ false → In (definitionRegion line mode) (characterAddress line mode style code)
-  definition-in-region none = definition-case (ltb line bitmapLines) (isHires mode) refl refl none
+  pub definition-in-region : isBitmap line mode ≡ false
+      → In (foldedRegion profile (definitionRegion line mode)) (characterAddress profile line mode style code)
+  definition-in-region picture =
+      regions-fold profile (definitionRegion line mode) (regions-in-one-block line mode .1) .0 (characterAddress 0 line mode style code)
+      (definition-case (ltb line bitmapLines) (isHires mode) refl refl picture)

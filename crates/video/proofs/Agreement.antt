@@ -1,94 +1,154 @@
--- Two images that agree on the used addresses of the first give the same cells. The registers' paths depend on screen bytes alone and
--- come first; then each cell is the same, and so are the lines and the frame that are gathered of them.
+-- Two RAMs that hold the same bytes where a frame of the first is read paint the same cells, but for the addresses if their profiles
+-- differ. The registers' paths depend on screen bytes alone and come first; then each cell is the same, and so is the frame.
 -- Assumes nothing.
-use Prim.Native.Nat.{ℕ, zero, suc, _<_, _≤_, _%_}
-use mathlib.Core.List.{[], _∷_, Option·toList}
-use mathlib.Core.Option.{Option, none, some}
-use mathlib.Core.Path.{_≡_, refl, sym, ap, _∙_}
+use Prim.Native.Nat.{ℕ, zero, suc, _+_, _<_, _≤_, _%_}
+use mathlib.Core.Bool.{Bool, true, false, cond, _||_}
+use mathlib.Core.List.{List, [], _∷_, _++_, map, map-id, flatMap, flatten, Option·toList}
+use mathlib.Core.Option.{Option, none, some, Option·map}
+use mathlib.Core.Path.{_≡_, refl, sym, ap, ap₂, _∙_}
 use native.Mathlib.Omega.{arith}
-use Rattle.machine.specs.Image.{Image, byteAt}
+use lib.ListN.{length, length-append, length-map}
+use Rattle.machine.specs.Image.{Image, blockLength, folded, byteAt}
 use Rattle.machine.specs.Lists.{Each}
 use Rattle.machine.specs.Sizes.{columns, lines}
 use Rattle.machine.proofs.Each.{each-head, each-tail, each-piece, each-mapped, each-joined}
-use Rattle.machine.proofs.Lists.{gather-same}
-use Rattle.video.specs.Address.{screenAddress}
-use Rattle.video.specs.Cell.{Cell, cell, screenByte, registersAfter, characterUsed, coloursOf, pattern, screenAddresses, used}
+use Rattle.machine.proofs.Lists.{gather-mapped}
+use Rattle.video.specs.Address.{isBitmap, screenAddress, characterAddress}
+use Rattle.video.specs.Answer.{painted}
+use Rattle.video.specs.Cell.{Cell, cell, screenByte, registersAfter, characterUsed, coloursOf, pattern, pixels, screenAddresses, characterAddresses, used, modeLeft}
 use Rattle.video.specs.Frame.{modeAfterLines, modeBefore, lineOf, firstLines, frameCells}
-use Rattle.video.specs.Laws.{Agree, PathByScreenBytes, FrameByUsedBytes}
+use Rattle.video.specs.Laws.{Agree, PathByScreenBytes, FrameByUsedBytes, foldedCell, StandsAt8000, FrameFolds, FoldedFrameShowsSame}
 use Rattle.video.specs.Line.{registersBefore, cellAt, firstCells, lineCells, modeAfterLine}
+use Rattle.video.specs.Ram.{Ram, ramOf}
+use Rattle.video.specs.Registers.{isAttribute}
+use Rattle.video.specs.State.{withProfile}
+use Rattle.video.proofs.Addresses.{InBlock, screen-in-block, characters-in-block}
 use Rattle.video.proofs.Frames.{mode-suc}
+use Rattle.video.proofs.Readings.{screens-length}
 use Rattle.video.specs.declared.registers.Registers.{Registers}
 use Rattle.video.specs.declared.state.State.{State}
 
 -- what holds of each cell of a frame holds of the cell at a line and a column
 cell-in : (P : Cell → Type 0) (image : Image) (state : State) → Each P (frameCells image state)
     → (line column : ℕ) → line < lines → column < columns
-    → P (cellAt image (state .counter) line (modeBefore image (state .mode) line) column)
+    → let ram = ramOf image state in P (cellAt ram (state .counter) line (modeBefore ram (state .mode) line) column)
 unfolding firstLines firstCells
 cell-in P image state p line column hl hc =
     each-head P _ [] (each-piece P _ columns (each-piece P _ lines p line hl) column hc)
 
-module _ (first second : Image) where
-  abbrev Same : ℕ → Type 0
-  Same address = byteAt first address ≡ byteAt second address
+module _ (first second : Ram) where
+  -- the same screen byte at a cell
+  abbrev SameScreen : ℕ → ℕ → ℕ → Type 0
+  SameScreen line column mode = screenByte first line column mode ≡ screenByte second line column mode
+
+  -- the same character byte for a code
+  abbrev SameCharacter : ℕ → ℕ → ℕ → ℕ → Type 0
+  SameCharacter line mode style code =
+      byteAt (first .image) (characterAddress (first .profile) line mode style code)
+      ≡ byteAt (second .image) (characterAddress (second .profile) line mode style code)
+
+  -- the same bytes where a cell is read, from the registers before it
+  pub record SameBytes (line column : ℕ) (before : Registers) : Type 0 where
+    pub screen : SameScreen line column (before .mode)
+    pub character : let byte = screenByte first line column (before .mode) in
+        (isAttribute byte || isBitmap line (before .mode)) ≡ false → SameCharacter line (before .mode) (before .style) (byte % 128)
 
   -- the registers before a cell, by the screen bytes to its left
-  path-line : (line mode n : ℕ) → ((column : ℕ) → column < n → Same (screenAddress line column (registersBefore first line mode column .mode)))
+  path-line : (line mode n : ℕ) → ((column : ℕ) → column < n → SameScreen line column (registersBefore first line mode column .mode))
       → registersBefore second line mode n ≡ registersBefore first line mode n
-  unfolding registersBefore screenByte
+  unfolding registersBefore
   path-line line mode zero same = refl
   path-line line mode (suc n) same =
       ap (λ (r : Registers). registersAfter r (screenByte second line n (r .mode))) (path-line line mode n (λ column h. same column (omega arith)))
       ∙ ap (registersAfter (registersBefore first line mode n)) (sym (same n (omega arith)))
 
-  module _ (mode : ℕ) (same : (line column : ℕ) → line < lines → column < columns → Same (screenAddress line column (registersBefore first line (modeBefore first mode line) column .mode))) where
-    -- the mode before a line
-    path-lines : (n : ℕ) → n ≤ lines → modeBefore second mode n ≡ modeBefore first mode n
-    unfolding modeAfterLines
-    path-lines zero h = refl
-    path-lines (suc n) h =
-        mode-suc second mode n
-        ∙ ap (modeAfterLine second n) (path-lines n (omega arith))
-        ∙ ap (λ (r : Registers). r .mode) (path-line n (modeBefore first mode n) columns (λ column hc. same n column (omega arith) hc))
-        ∙ sym (mode-suc first mode n)
+  -- the mode before a line
+  path-lines : (mode : ℕ)
+      → ((line column : ℕ) → line < lines → column < columns → SameScreen line column (registersBefore first line (modeBefore first mode line) column .mode))
+      → (n : ℕ) → n ≤ lines → modeBefore second mode n ≡ modeBefore first mode n
+  unfolding modeAfterLines
+  path-lines mode same zero h = refl
+  path-lines mode same (suc n) h =
+      mode-suc second mode n
+      ∙ ap (modeAfterLine second n) (path-lines mode same n (omega arith))
+      ∙ ap (λ (r : Registers). r .mode) (path-line n (modeBefore first mode n) columns (λ column hc. same n column (omega arith) hc))
+      ∙ sym (mode-suc first mode n)
 
-  pattern-same : (byte : ℕ) (character : Option ℕ) → Agree first second (Option·toList character) → pattern second byte character ≡ pattern first byte character
-  unfolding Option·toList
-  pattern-same byte none agree = refl
-  pattern-same byte (some address) agree = ap (λ (b : ℕ). b % 64) (sym (each-head Same address [] agree))
-
-  colours-same : (counter line : ℕ) (before : Registers) (byte : ℕ) → Agree first second (Option·toList (characterUsed line before byte))
+  colours-same : (counter line : ℕ) (before : Registers) (byte : ℕ)
+      → ((isAttribute byte || isBitmap line (before .mode)) ≡ false → SameCharacter line (before .mode) (before .style) (byte % 128))
       → coloursOf second counter line before byte ≡ coloursOf first counter line before byte
-  unfolding coloursOf
-  colours-same counter line before byte agree = rw (pattern-same byte (characterUsed line before byte) agree)
+  unfolding coloursOf characterUsed
+  colours-same counter line before byte same = rw (go (isAttribute byte || isBitmap line (before .mode)) refl)
+    where
+      address : Ram → ℕ
+      address ram = characterAddress (ram .profile) line (before .mode) (before .style) (byte % 128)
 
-  -- one cell, from the same registers
-  cell-same : (counter line column : ℕ) (before : Registers)
-      → let c = cell first counter line column before in
-      Agree first second (c .screen ∷ Option·toList (c .character)) → cell second counter line column before ≡ c
-  unfolding cell screenByte
-  cell-same counter line column before agree =
-      let byte = each-head Same (screenAddress line column (before .mode)) _ agree in
-      let colours = colours-same counter line before (byteAt first (screenAddress line column (before .mode))) (each-tail Same _ _ agree) in
-      rw (← byte) (rw colours)
+      go : (none-used : Bool) → (isAttribute byte || isBitmap line (before .mode)) ≡ none-used
+          → pattern (second .image) byte (cond none-used none (some (address second)))
+          ≡ pattern (first .image) byte (cond none-used none (some (address first)))
+      go true e = refl
+      go false e = ap (λ (b : ℕ). b % 64) (sym (same e))
+
+  -- a cell of the second from the bytes of the first: the addresses alone are its own
+  pub cell-read : (counter line column : ℕ) (before : Registers) → SameBytes line column before
+      → let byte = screenByte first line column (before .mode) in
+      cell second counter line column before
+      ≡ record {
+        line = line;
+        mode = before .mode;
+        screen = screenAddress (second .profile) line column (before .mode);
+        character = characterUsed (second .profile) line before byte;
+        colours = coloursOf first counter line before byte;
+        registers = registersAfter before byte;
+      }
+  unfolding cell
+  cell-read counter line column before same =
+      rw (← same .screen)
+      (rw (colours-same counter line before (screenByte first line column (before .mode)) (same .character)))
+
+  -- the cells of a frame, each changed in the same way
+  module _ (change : Cell → Cell) (counter mode : ℕ)
+      (same : (line column : ℕ) → line < lines → column < columns → SameBytes line column (registersBefore first line (modeBefore first mode line) column))
+      (changed : (line column : ℕ) (before : Registers) → SameBytes line column before
+      → cell second counter line column before ≡ change (cell first counter line column before)) where
+    pub frame-changed : firstLines second counter mode lines ≡ map change (firstLines first counter mode lines)
+    unfolding firstLines firstCells cellAt
+    frame-changed =
+        gather-mapped change (lineOf first counter mode) (lineOf second counter mode) lines (λ line hl.
+        let path = path-lines mode (λ line column hl hc. same line column hl hc .screen) line (omega arith) in
+        ap (lineCells second counter line) path
+        ∙ gather-mapped change _ _ columns (λ column hc.
+        let before = path-line line (modeBefore first mode line) column (λ k hk. same line k hl (omega arith) .screen) in
+        ap (λ (r : Registers). cell second counter line column r ∷ []) before
+        ∙ ap (λ (c : Cell). c ∷ []) (changed line column _ (same line column hl hc))))
+
+-- two images of one profile
+module _ (first second : Image) (state : State) where
+  abbrev Same : ℕ → Type 0
+  Same address = byteAt first address ≡ byteAt second address
+
+  -- the character byte that a cell uses
+  character-same : (line : ℕ) (before : Registers) (byte : ℕ) → Each Same (Option·toList (characterUsed (state .profile) line before byte))
+      → (isAttribute byte || isBitmap line (before .mode)) ≡ false
+      → Same (characterAddress (state .profile) line (before .mode) (before .style) (byte % 128))
+  unfolding characterUsed Option·toList
+  character-same line before byte agree e = each-head Same _ [] (simp e at agree)
 
 pub path-by-screen-bytes : PathByScreenBytes
-unfolding screenAddresses cellAt cell
+unfolding screenAddresses cellAt cell screenByte
 path-by-screen-bytes first second state agree =
-    path-lines first second (state .mode)
-    (cell-in (λ (c : Cell). Same first second (c .screen)) first state (each-mapped (Same first second) (λ (c : Cell). c .screen) (frameCells first state) agree))
+    path-lines (ramOf first state) (ramOf second state) (state .mode)
+    (cell-in (λ (c : Cell). Same first second state (c .screen)) first state (each-mapped (Same first second state) (λ (c : Cell). c .screen) (frameCells first state) agree))
 
 pub frame-by-used-bytes : FrameByUsedBytes
-unfolding used firstLines firstCells cellAt cell
+unfolding used cellAt cell screenByte
 frame-by-used-bytes first second state agree =
     let Alike : Cell → Type 0 = λ (c : Cell). Agree first second (c .screen ∷ Option·toList (c .character)) in
-    let alike = cell-in Alike first state (each-joined (Same first second) _ (frameCells first state) agree) in
-    let screens : (line column : ℕ) → line < lines → column < columns → Same first second (screenAddress line column (registersBefore first line (modeBefore first (state .mode) line) column .mode)) =
-    λ line column hl hc. each-head (Same first second) _ _ (alike line column hl hc) in
-    gather-same (lineOf second (state .counter) (state .mode)) (lineOf first (state .counter) (state .mode)) lines (λ line hl.
-    let mode = modeBefore first (state .mode) line in
-    ap (lineCells second (state .counter) line) (path-lines first second (state .mode) screens line (omega arith))
-    ∙ gather-same _ _ columns (λ column hc.
-    let before = path-line first second line mode column (λ k hk. screens line k hl (omega arith)) in
-    ap (λ (r : Registers). cell second (state .counter) line column r ∷ []) before
-    ∙ ap (λ (c : Cell). c ∷ []) (cell-same first second (state .counter) line column (registersBefore first line mode column) (alike line column hl hc))))
+    let alike = cell-in Alike first state (each-joined (Same first second state) _ (frameCells first state) agree) in
+    frame-changed (ramOf first state) (ramOf second state) (λ (c : Cell). c) (state .counter) (state .mode)
+    (λ line column hl hc. record {
+      screen = each-head (Same first second state) _ _ (alike line column hl hc);
+      character = character-same first second state line _ _ (each-tail (Same first second state) _ _ (alike line column hl hc));
+    })
+    (λ line column before same. cell-read (ramOf first state) (ramOf second state) (state .counter) line column before same)
+    ∙ map-id (frameCells first state)

@@ -8,14 +8,15 @@ use mathlib.Core.Path.{_≡_, refl, ap}
 use native.Mathlib.Omega.{arith}
 use lib.Dec.{ltb}
 use lib.ListN.{length, length-map}
-use Rattle.machine.specs.Image.{Image, byteAt}
+use Rattle.machine.specs.Image.{byteAt}
 use Rattle.machine.specs.Sizes.{cellLength, lastMode}
+use Rattle.machine.proofs.Choice.{cond-all}
 use Rattle.video.specs.Address.{isBitmap, screenAddress, characterAddress}
 use Rattle.video.specs.Cell.{cell, screenByte, registersAfter, characterUsed, pattern, coloursOf}
 use Rattle.video.specs.Internal.{paintedCell, shown}
 use Rattle.video.specs.Pattern.{complemented}
+use Rattle.video.specs.Ram.{Ram}
 use Rattle.video.specs.Registers.{isAttribute, latched, shownInk}
-use Rattle.video.proofs.Choice.{cond-all}
 use Rattle.video.proofs.Words.{low-six}
 use Rattle.video.specs.declared.cell.PaintedCell.{PaintedCell}
 use Rattle.video.specs.declared.registers.Registers.{Registers}
@@ -46,34 +47,34 @@ after-mode before byte h =
     h
 
 -- a cell is six colours
-pub cell-six : (image : Image) (counter line column : ℕ) (before : Registers) → length (cell image counter line column before .colours) ≡ cellLength
+pub cell-six : (ram : Ram) (counter line column : ℕ) (before : Registers) → length (cell ram counter line column before .colours) ≡ cellLength
 unfolding cell coloursOf
-cell-six image counter line column before =
-    let byte = screenByte image line column (before .mode) in
+cell-six ram counter line column before =
+    let byte = screenByte ram line column (before .mode) in
     simp length-map (cond-all (λ (l : List ℕ). length l ≡ cellLength) (isAttribute byte) _ _ refl refl)
 
 -- a cell as the program paints it, from the byte that it read
-module _ (image : Image) (counter line column : ℕ) (before : Registers) where
+module _ (ram : Ram) (counter line column : ℕ) (before : Registers) where
   abbrev byte : ℕ
-  byte = screenByte image line column (before .mode)
+  byte = screenByte ram line column (before .mode)
 
   -- an attribute shows pattern 0 with the registers that it leaves
   pub attribute-painted : isAttribute byte ≡ true
       → let after = latched before byte in
       _≡_ {A = PaintedCell} (record { registers = after; colours = shown after counter byte 0; character = 0 })
-      (paintedCell (cell image counter line column before))
+      (paintedCell (cell ram counter line column before))
   unfolding cell coloursOf registersAfter characterUsed Option·toList
   attribute-painted attribute = simp attribute
 
   -- where the pattern of a picture is read
   abbrev pub patternAddress : ℕ
   patternAddress =
-      cond (isBitmap line (before .mode)) (screenAddress line column (before .mode))
-      (characterAddress line (before .mode) (before .style) (byte % 128))
+      cond (isBitmap line (before .mode)) (screenAddress (ram .profile) line column (before .mode))
+      (characterAddress (ram .profile) line (before .mode) (before .style) (byte % 128))
 
   -- it is in the low six bits of the byte there
   pictured : (bitmap : Bool) → isBitmap line (before .mode) ≡ bitmap → isAttribute byte ≡ false
-      → pattern image byte (characterUsed line before byte) ≡ byteAt image patternAddress % 64
+      → pattern (ram .image) byte (characterUsed (ram .profile) line before byte) ≡ byteAt (ram .image) patternAddress % 64
   unfolding characterUsed screenByte
   pictured true e picture = simp (picture, e)
   pictured false e picture = simp (picture, e)
@@ -84,17 +85,17 @@ module _ (image : Image) (counter line column : ℕ) (before : Registers) where
   counted true address = refl
   counted false address = refl
 
-  picture-colours : isAttribute byte ≡ false → coloursOf image counter line before byte ≡ shown before counter byte (byteAt image patternAddress)
+  picture-colours : isAttribute byte ≡ false → coloursOf ram counter line before byte ≡ shown before counter byte (byteAt (ram .image) patternAddress)
   unfolding coloursOf
   picture-colours picture =
       simp (picture, pictured (isBitmap line (before .mode)) refl picture)
-      (ap (map (complemented byte)) (low-six (shownInk before counter) (before .paper) (byteAt image patternAddress)))
+      (ap (map (complemented byte)) (low-six (shownInk before counter) (before .paper) (byteAt (ram .image) patternAddress)))
 
   pub picture-painted : isAttribute byte ≡ false
       → _≡_ {A = PaintedCell}
-      (record { registers = before; colours = shown before counter byte (byteAt image patternAddress); character = cond (isBitmap line (before .mode)) 0 1 })
-      (paintedCell (cell image counter line column before))
+      (record { registers = before; colours = shown before counter byte (byteAt (ram .image) patternAddress); character = cond (isBitmap line (before .mode)) 0 1 })
+      (paintedCell (cell ram counter line column before))
   unfolding cell registersAfter characterUsed
   picture-painted picture =
-      let address = characterAddress line (before .mode) (before .style) (byte % 128) in
+      let address = characterAddress (ram .profile) line (before .mode) (before .style) (byte % 128) in
       rw (picture-colours picture) (simp picture (rw (counted (isBitmap line (before .mode)) address) refl))

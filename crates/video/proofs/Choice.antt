@@ -1,4 +1,4 @@
--- Laws of a choice between two values, and of a pattern's six choices.
+-- Laws of a pattern's six choices, and of the colours that are chosen.
 -- Assumes nothing.
 use Prim.Native.Nat.{ℕ, _-_, _≤_}
 use mathlib.Core.Bool.{Bool, true, false, cond, _&&_}
@@ -7,19 +7,12 @@ use mathlib.Core.Path.{_≡_, refl, ap₂}
 use native.Mathlib.Omega.{arith}
 use lib.Dec.{leb}
 use Rattle.machine.specs.Bits.{bit}
+use Rattle.machine.proofs.Choice.{cond-most}
 use Rattle.video.specs.Pattern.{patternColour, complemented}
 use Rattle.video.specs.Registers.{shownInk}
 use Rattle.video.specs.declared.registers.Registers.{Registers}
 
--- what holds of both values holds of the chosen one
-pub cond-all : {A : Type 0} (P : A → Type 0) (b : Bool) (x y : A) → P x → P y → P (cond b x y)
-cond-all P true x y px py = px
-cond-all P false x y px py = py
-
-pub cond-most : (b : Bool) (x y : ℕ) {most : ℕ} → x ≤ most → y ≤ most → cond b x y ≤ most
-cond-most b x y {most} = cond-all (λ (n : ℕ). n ≤ most) b x y
-
-cond-map : (f : ℕ → ℕ) (b : Bool) (x y : ℕ) → cond b (f x) (f y) ≡ f (cond b x y)
+pub cond-map : (f : ℕ → ℕ) (b : Bool) (x y : ℕ) → cond b (f x) (f y) ≡ f (cond b x y)
 cond-map f true x y = refl
 cond-map f false x y = refl
 

@@ -4,6 +4,7 @@ pub mod Addresses
 pub mod Answers
 pub mod Cells
 pub mod Choice
+pub mod Folded
 pub mod Frames
 pub mod Lines
 pub mod Places

@@ -13,10 +13,11 @@ use lib.ListN.{length, take, drop}
 use Rattle.machine.specs.Bits.{bit}
 use Rattle.machine.specs.Lists.{Each}
 use Rattle.machine.proofs.Below.{below}
+use Rattle.machine.proofs.Choice.{cond-all}
 use Rattle.machine.proofs.Each.{each-head, each-tail, each-map}
 use Rattle.video.specs.Internal.{lowBytes, wordOf, pixelBytes, spreadWord}
 use Rattle.video.specs.Pattern.{patternWeights, patternColours, complemented}
-use Rattle.video.proofs.Choice.{cond-all, complemented-most, pattern-map}
+use Rattle.video.proofs.Choice.{complemented-most, pattern-map}
 
 pub low-bytes : (bs : List ℕ) → Each (λ (b : ℕ). b < 256) bs → lowBytes (length bs) (wordOf bs) ≡ bs
 low-bytes [] small = refl

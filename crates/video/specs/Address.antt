@@ -4,6 +4,7 @@ use Prim.Native.Nat.{ℕ, _+_, _*_, _/_, _%_}
 use mathlib.Core.Bool.{Bool, cond, _&&_}
 use lib.Dec.{ltb}
 use Rattle.machine.specs.Bits.{bit}
+use Rattle.machine.specs.Image.{folded}
 use Rattle.machine.specs.Sizes.{columns}
 
 -- bit 2 of the mode chooses hires, else text
@@ -26,13 +27,20 @@ textStart line = 0xBB80 + columns * (line / 8)
 abbrev pub hiresStart : ℕ → ℕ
 hiresStart line = cond (ltb line bitmapLines) (0xA000 + columns * line) (textStart line)
 
--- the address of a cell's screen byte
-abbrev pub screenAddress : ℕ → ℕ → ℕ → ℕ
-screenAddress line column mode = cond (isHires mode) (hiresStart line) (textStart line) + column
+-- the address of a cell's screen byte, folded
+abbrev pub screenAddress : ℕ → ℕ → ℕ → ℕ → ℕ
+screenAddress profile line column mode = folded profile (cond (isHires mode) (hiresStart line) (textStart line) + column)
+
+-- the character sets of text and of hires
+abbrev pub textCharacters : ℕ
+textCharacters = 0xB400
+
+abbrev pub hiresCharacters : ℕ
+hiresCharacters = 0x9800
 
 -- the address of the character set, where one is used
 abbrev pub characterSet : ℕ → ℕ
-characterSet mode = cond (isHires mode) 0x9800 0xB400
+characterSet mode = cond (isHires mode) hiresCharacters textCharacters
 
 -- how far behind the standard set the characters begin: bit 0 of the style chooses the alternate set
 abbrev pub alternateOffset : ℕ → ℕ
@@ -42,7 +50,7 @@ alternateOffset style = cond (bit 1 style) 0x400 0
 abbrev pub characterRow : ℕ → ℕ → ℕ
 characterRow line style = cond (bit 2 style) (line / 2 % 8) (line % 8)
 
--- the address of a character byte
-abbrev pub characterAddress : ℕ → ℕ → ℕ → ℕ → ℕ
-characterAddress line mode style code =
-    characterSet mode + alternateOffset style + 8 * code + characterRow line style
+-- the address of a character byte, folded
+abbrev pub characterAddress : ℕ → ℕ → ℕ → ℕ → ℕ → ℕ
+characterAddress profile line mode style code =
+    folded profile (characterSet mode + alternateOffset style + 8 * code + characterRow line style)

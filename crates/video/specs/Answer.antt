@@ -3,12 +3,13 @@
 use Prim.Native.Nat.{ℕ}
 use mathlib.Core.List.{List, [], _∷_, _++_}
 use lib.ListN.{length}
-use Rattle.machine.specs.Refusal.{Check, refusal, ifDone, memoryCheck, outputCheck, modeCheck, counterCheck, lineCheck, columnCheck}
+use Rattle.machine.specs.Refusal.{Check, refusal, ifDone, memoryCheck, outputCheck, modeCheck, counterCheck, lineCheck, columnCheck, profileCheck}
 use Rattle.machine.specs.Sizes.{lineLength, frameLength}
 use Rattle.video.specs.Address.{screenAddress}
 use Rattle.video.specs.Cell.{Cell, pixels, screenAddresses, characterAddresses, modeLeft}
 use Rattle.video.specs.Frame.{frameCells}
 use Rattle.video.specs.Line.{lineCells}
+use Rattle.video.specs.Ram.{ramOf}
 use Rattle.video.specs.State.{withMode, afterFrame}
 use Rattle.video.specs.declared.address.Address.{Address}
 use Rattle.video.specs.declared.answer.Painted.{Painted}
@@ -28,10 +29,11 @@ painted state cells =
 abbrev pub unpainted : ℕ → State → Painted
 unpainted number state = record { status = number; state = state; screen = 0; character = 0 }
 
--- the refusals of a painting, in order: the lengths of the memory and of what is to be filled, then the state
+-- the refusals of a painting, in order: the profile, the lengths of the memory and of what is to be filled, then mode and counter
 abbrev pub paintingChecks : ℕ → ℕ → ℕ → State → List Check
 paintingChecks memory wanted output state =
-    memoryCheck memory ∷ outputCheck wanted output ∷ modeCheck (state .mode) ∷ counterCheck (state .counter) ∷ []
+    profileCheck (state .profile) ∷ memoryCheck (state .profile) memory
+    ∷ outputCheck wanted output ∷ modeCheck (state .mode) ∷ counterCheck (state .counter) ∷ []
 
 -- by the status of a painting: what it answers, from the state handed in and the one that it leaves but for the mode
 abbrev pub paintedBy : ℕ → State → State → List Cell → Painted
@@ -41,7 +43,7 @@ paintedBy number state after cells = ifDone number (painted after cells) (unpain
 abbrev pub filledBy : ℕ → List Cell → List ℕ → List ℕ
 filledBy number cells lent = ifDone number (pixels cells) lent
 
--- a frame: refusals 1, 2, 3, 4
+-- a frame: refusals 12, 1, 2, 3, 4
 abbrev pub frameRefusal : List ℕ → State → List ℕ → ℕ
 frameRefusal memory state frame = refusal (paintingChecks (length memory) frameLength (length frame) state)
 
@@ -51,24 +53,27 @@ frameAnswer memory state frame = paintedBy (frameRefusal memory state frame) sta
 unfoldable pub frameContents : List ℕ → State → List ℕ → List ℕ
 frameContents memory state frame = filledBy (frameRefusal memory state frame) (frameCells memory state) frame
 
--- a line: refusals 1, 2, 3, 4, 5; a single line does not move the counter
+-- a line: refusals 12, 1, 2, 3, 4, 5; a single line does not move the counter
 abbrev pub lineRefusal : List ℕ → State → ℕ → List ℕ → ℕ
 lineRefusal memory state line output =
     refusal (paintingChecks (length memory) lineLength (length output) state ++ (lineCheck line ∷ []))
 
+-- the cells of a single line, which begins in the mode of the state
+abbrev pub cellsOfLine : List ℕ → State → ℕ → List Cell
+cellsOfLine memory state line = lineCells (ramOf memory state) (state .counter) line (state .mode)
+
 unfoldable pub lineAnswer : List ℕ → State → ℕ → List ℕ → Painted
-lineAnswer memory state line output =
-    paintedBy (lineRefusal memory state line output) state state (lineCells memory (state .counter) line (state .mode))
+lineAnswer memory state line output = paintedBy (lineRefusal memory state line output) state state (cellsOfLine memory state line)
 
 unfoldable pub lineContents : List ℕ → State → ℕ → List ℕ → List ℕ
-lineContents memory state line output =
-    filledBy (lineRefusal memory state line output) (lineCells memory (state .counter) line (state .mode)) output
+lineContents memory state line output = filledBy (lineRefusal memory state line output) (cellsOfLine memory state line) output
 
--- the address of a cell's screen byte: refusals 3, 5, 6, with 0 for the address
-abbrev pub addressRefusal : ℕ → ℕ → ℕ → ℕ
-addressRefusal line column mode = refusal (modeCheck mode ∷ lineCheck line ∷ columnCheck column ∷ [])
+-- the address of a cell's screen byte: refusals 12, 3, 5, 6, with 0 for the address
+abbrev pub addressRefusal : ℕ → ℕ → ℕ → ℕ → ℕ
+addressRefusal profile line column mode =
+    refusal (profileCheck profile ∷ modeCheck mode ∷ lineCheck line ∷ columnCheck column ∷ [])
 
-abbrev pub addressAnswer : ℕ → ℕ → ℕ → Address
-addressAnswer line column mode =
-    let number = addressRefusal line column mode in
-    record { status = number; address = ifDone number (screenAddress line column mode) 0 }
+abbrev pub addressAnswer : ℕ → ℕ → ℕ → ℕ → Address
+addressAnswer profile line column mode =
+    let number = addressRefusal profile line column mode in
+    record { status = number; address = ifDone number (screenAddress profile line column mode) 0 }

@@ -9,22 +9,23 @@ use Rattle.machine.specs.Image.{Image, byteAt}
 use Rattle.machine.specs.Sizes.{cellLength}
 use Rattle.video.specs.Address.{isBitmap, screenAddress, characterAddress}
 use Rattle.video.specs.Pattern.{patternColours, complemented}
+use Rattle.video.specs.Ram.{Ram}
 use Rattle.video.specs.Registers.{isAttribute, latched, shownInk}
 use Rattle.video.specs.declared.registers.Registers.{Registers}
 
 -- the screen byte of a cell; the mode is the one in force, before the byte is read
-unfoldable pub screenByte : Image → ℕ → ℕ → ℕ → ℕ
-screenByte image line column mode = byteAt image (screenAddress line column mode)
+unfoldable pub screenByte : Ram → ℕ → ℕ → ℕ → ℕ
+screenByte ram line column mode = byteAt (ram .image) (screenAddress (ram .profile) line column mode)
 
 -- the registers that a screen byte leaves: an attribute changes one, a picture none
 unfoldable pub registersAfter : Registers → ℕ → Registers
 registersAfter before byte = cond (isAttribute byte) (latched before byte) before
 
 -- the address of the character byte that a cell uses, if it uses one: a picture outside hires lines 0 to 199
-unfoldable pub characterUsed : ℕ → Registers → ℕ → Option ℕ
-characterUsed line before byte =
+unfoldable pub characterUsed : ℕ → ℕ → Registers → ℕ → Option ℕ
+characterUsed profile line before byte =
     cond (isAttribute byte || isBitmap line (before .mode)) none
-    (some (characterAddress line (before .mode) (before .style) (byte % 128)))
+    (some (characterAddress profile line (before .mode) (before .style) (byte % 128)))
 
 -- a picture's pattern: of its character byte if it uses one, else of the screen byte itself
 abbrev pub pattern : Image → ℕ → Option ℕ → ℕ
@@ -32,11 +33,11 @@ pattern image byte none = byte % 64
 pattern image byte (some address) = byteAt image address % 64
 
 -- the six colours of a cell: six of paper, the new one, for an attribute; else the pattern; complemented last
-unfoldable pub coloursOf : Image → ℕ → ℕ → Registers → ℕ → List ℕ
-coloursOf image counter line before byte =
+unfoldable pub coloursOf : Ram → ℕ → ℕ → Registers → ℕ → List ℕ
+coloursOf ram counter line before byte =
     map (complemented byte)
     (cond (isAttribute byte) (replicate cellLength (registersAfter before byte .paper))
-    (patternColours (shownInk before counter) (before .paper) (pattern image byte (characterUsed line before byte))))
+    (patternColours (shownInk before counter) (before .paper) (pattern (ram .image) byte (characterUsed (ram .profile) line before byte))))
 
 -- a painted cell: its line, the mode in force (document 01), the addresses that it used, its colours and the registers that it leaves
 pub record Cell : Type 0 where
@@ -48,15 +49,15 @@ pub record Cell : Type 0 where
   pub registers : Registers
 
 -- the cell at a column, from the registers before it
-unfoldable pub cell : Image → ℕ → ℕ → ℕ → Registers → Cell
-cell image counter line column before =
-    let byte = screenByte image line column (before .mode) in
+unfoldable pub cell : Ram → ℕ → ℕ → ℕ → Registers → Cell
+cell ram counter line column before =
+    let byte = screenByte ram line column (before .mode) in
     record {
       line = line;
       mode = before .mode;
-      screen = screenAddress line column (before .mode);
-      character = characterUsed line before byte;
-      colours = coloursOf image counter line before byte;
+      screen = screenAddress (ram .profile) line column (before .mode);
+      character = characterUsed (ram .profile) line before byte;
+      colours = coloursOf ram counter line before byte;
       registers = registersAfter before byte;
     }
 

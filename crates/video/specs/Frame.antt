@@ -9,25 +9,26 @@ use Rattle.machine.specs.Lists.{gather}
 use Rattle.machine.specs.Sizes.{lines}
 use Rattle.video.specs.Cell.{Cell}
 use Rattle.video.specs.Line.{lineCells, modeAfterLine}
+use Rattle.video.specs.Ram.{Ram, ramOf}
 use Rattle.video.specs.declared.state.State.{State}
 
 -- the mode after lines a to b, b left out, of which the first begins in the given mode
-unfoldable pub modeAfterLines : Image → ℕ → ℕ → ℕ → ℕ
-modeAfterLines image mode a zero = mode
-modeAfterLines image mode a (suc b) = cond (leb a b) (modeAfterLine image b (modeAfterLines image mode a b)) mode
+unfoldable pub modeAfterLines : Ram → ℕ → ℕ → ℕ → ℕ
+modeAfterLines ram mode a zero = mode
+modeAfterLines ram mode a (suc b) = cond (leb a b) (modeAfterLine ram b (modeAfterLines ram mode a b)) mode
 
 -- the mode before a line of a frame that begins in the given mode
-abbrev pub modeBefore : Image → ℕ → ℕ → ℕ
-modeBefore image mode line = modeAfterLines image mode 0 line
+abbrev pub modeBefore : Ram → ℕ → ℕ → ℕ
+modeBefore ram mode line = modeAfterLines ram mode 0 line
 
 -- the cells of a line of a frame
-abbrev pub lineOf : Image → ℕ → ℕ → ℕ → List Cell
-lineOf image counter mode line = lineCells image counter line (modeBefore image mode line)
+abbrev pub lineOf : Ram → ℕ → ℕ → ℕ → List Cell
+lineOf ram counter mode line = lineCells ram counter line (modeBefore ram mode line)
 
 -- the cells of the first n lines of a frame
-unfoldable pub firstLines : Image → ℕ → ℕ → ℕ → List Cell
-firstLines image counter mode n = gather (lineOf image counter mode) n
+unfoldable pub firstLines : Ram → ℕ → ℕ → ℕ → List Cell
+firstLines ram counter mode n = gather (lineOf ram counter mode) n
 
 -- a frame is 224 lines
 abbrev pub frameCells : Image → State → List Cell
-frameCells image state = firstLines image (state .counter) (state .mode) lines
+frameCells image state = firstLines (ramOf image state) (state .counter) (state .mode) lines

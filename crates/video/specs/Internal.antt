@@ -5,24 +5,40 @@ use mathlib.Core.Bool.{cond}
 use mathlib.Core.List.{List, [], _∷_, _++_, map, Option·toList}
 use lib.ListN.{length, take, drop}
 use Rattle.machine.specs.Bits.{bit}
-use Rattle.machine.specs.Image.{Image}
+use Rattle.machine.specs.Image.{Image, folded}
 use Rattle.machine.specs.Sizes.{columns}
-use Rattle.video.specs.Address.{textStart, hiresStart}
+use Rattle.video.specs.Address.{textStart, hiresStart, textCharacters, hiresCharacters}
 use Rattle.video.specs.Cell.{Cell, screenAddresses, characterAddresses}
 use Rattle.video.specs.Line.{registersBefore, lineCells}
 use Rattle.video.specs.Pattern.{patternWeights, patternColours, complemented}
+use Rattle.video.specs.Ram.{Ram}
 use Rattle.video.specs.Registers.{shownInk}
 use Rattle.video.specs.State.{withMode}
 use Rattle.video.specs.declared.address.Scanline.{Scanline}
+use Rattle.video.specs.declared.address.Starts.{Starts}
 use Rattle.video.specs.declared.answer.Painted.{Painted}
 use Rattle.video.specs.declared.cell.PaintedCell.{PaintedCell}
 use Rattle.video.specs.declared.line.PaintedLine.{PaintedLine}
 use Rattle.video.specs.declared.registers.Registers.{Registers}
 use Rattle.video.specs.declared.state.State.{State}
 
--- the record of a line
-abbrev pub scanline : ℕ → Scanline
-scanline line = record { number = line; text = textStart line; hires = hiresStart line }
+-- where screen bytes and a character set begin, folded
+abbrev pub starts : ℕ → ℕ → ℕ → Starts
+starts profile screen characters = record { screen = folded profile screen; characters = folded profile characters }
+
+-- the record of a line of a profile
+abbrev pub scanline : ℕ → ℕ → Scanline
+scanline profile line =
+    record {
+      profile = profile;
+      number = line;
+      text = starts profile (textStart line) textCharacters;
+      hires = starts profile (hiresStart line) hiresCharacters;
+    }
+
+-- the RAM that the line of a record is read from
+abbrev pub ramBy : Image → Scanline → Ram
+ramBy image line = record { profile = line .profile; image = image }
 
 -- the six pixels of a pattern under a screen byte
 abbrev pub shown : Registers → ℕ → ℕ → ℕ → List ℕ
@@ -35,11 +51,11 @@ paintedCell c =
     record { registers = c .registers; colours = c .colours; character = length (Option·toList (c .character)) }
 
 -- what is handed back of a line that begins in the given mode
-abbrev pub paintedLine : Image → ℕ → ℕ → ℕ → PaintedLine
-paintedLine image counter line mode =
-    let cells = lineCells image counter line mode in
+abbrev pub paintedLine : Ram → ℕ → ℕ → ℕ → PaintedLine
+paintedLine ram counter line mode =
+    let cells = lineCells ram counter line mode in
     record {
-      registers = registersBefore image line mode columns;
+      registers = registersBefore ram line mode columns;
       screen = length (screenAddresses cells);
       character = length (characterAddresses cells);
     }

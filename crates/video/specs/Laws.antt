@@ -1,25 +1,27 @@
 -- What holds of every line and every frame, stated over the rules alone; the proofs are in proofs/.
 -- Assumes nothing.
 use Prim.Native.Nat.{ℕ, _+_, _*_, _≤_, _<_}
-use mathlib.Core.List.{List, [], _∷_, Option·toList}
+use mathlib.Core.List.{List, [], _∷_, map, Option·toList}
+use mathlib.Core.Option.{Option, Option·map}
 use mathlib.Core.Path.{_≡_}
 use lib.ListN.{getD, length}
-use Rattle.machine.specs.Image.{Image, byteAt}
+use Rattle.machine.specs.Image.{Image, imageLength, folded, byteAt}
 use Rattle.machine.specs.Lists.{Each}
 use Rattle.machine.specs.Sizes.{cellLength, columns, lines}
 use Rattle.video.specs.Cell.{Cell, pixels, screenAddresses, used}
 use Rattle.video.specs.Frame.{modeBefore, frameCells}
 use Rattle.video.specs.Line.{cellAt, lineCells}
 use Rattle.video.specs.Answer.{painted}
-use Rattle.video.specs.Region.{In, screenRegion, definitionRegion}
-use Rattle.video.specs.State.{Within, afterFrame}
+use Rattle.video.specs.Ram.{Ram, ramOf}
+use Rattle.video.specs.Region.{Region, In, InOneBlock, foldedRegion, screenRegion, definitionRegion}
+use Rattle.video.specs.State.{Within, withProfile, afterFrame}
 use Rattle.video.specs.declared.state.State.{State}
 
--- a cell's addresses lie in the regions of its line and the mode in force
-abbrev pub Placed : Cell → Type 0
-Placed c =
-    In (screenRegion (c .line) (c .mode)) (c .screen)
-    × Each (In (definitionRegion (c .line) (c .mode))) (Option·toList (c .character))
+-- a cell's addresses lie in the folded regions of its line and the mode in force
+abbrev pub Placed : ℕ → Cell → Type 0
+Placed profile c =
+    In (foldedRegion profile (screenRegion (c .line) (c .mode))) (c .screen)
+    × Each (In (foldedRegion profile (definitionRegion (c .line) (c .mode)))) (Option·toList (c .character))
 
 -- the mode in force at each cell is the one that the cell before left, at the first cell the given one (document 01: mode in force)
 abbrev pub InForce : ℕ → List Cell → Type 0
@@ -34,9 +36,20 @@ Agree first second addresses = Each (λ (address : ℕ). byteAt first address �
 abbrev pub Colour : ℕ → Type 0
 Colour pixel = pixel ≤ 7
 
+-- no region of the table crosses a border of 16K
+abbrev pub RegionsInOneBlock : Type 0
+RegionsInOneBlock = (line mode : ℕ) → InOneBlock (screenRegion line mode) × InOneBlock (definitionRegion line mode)
+
+-- so a folded region holds the folded addresses of the region, and no others
+abbrev pub RegionsFold : Type 0
+RegionsFold =
+    (profile : ℕ) (region : Option Region) → InOneBlock region
+    → ((address : ℕ) → In region address → In (foldedRegion profile region) (folded profile address))
+    × ((address : ℕ) → In (foldedRegion profile region) address → (origin : ℕ) × In region origin × (folded profile origin ≡ address))
+
 -- each used address lies in its region
 abbrev pub RegionsHold : Type 0
-RegionsHold = (image : Image) (state : State) → Each Placed (frameCells image state)
+RegionsHold = (image : Image) (state : State) → Each (Placed (state .profile)) (frameCells image state)
 
 -- the mode in force is carried from cell to cell, across line ends too
 abbrev pub ModesCarry : Type 0
@@ -46,9 +59,14 @@ ModesCarry = (image : Image) (state : State) → InForce (state .mode) (frameCel
 abbrev pub UsedBelowOverlay : Type 0
 UsedBelowOverlay = (image : Image) (state : State) → Each (λ (address : ℕ). address < 0xC000) (used (frameCells image state))
 
+-- each used address is that of a byte of the image
+abbrev pub UsedInImage : Type 0
+UsedInImage =
+    (image : Image) (state : State) → Each (λ (address : ℕ). address < imageLength (state .profile)) (used (frameCells image state))
+
 -- each pixel of a line is a colour
 abbrev pub LineOfColours : Type 0
-LineOfColours = (image : Image) (counter line mode : ℕ) → Each Colour (pixels (lineCells image counter line mode))
+LineOfColours = (ram : Ram) (counter line mode : ℕ) → Each Colour (pixels (lineCells ram counter line mode))
 
 -- each pixel of a frame is a colour
 abbrev pub FrameOfColours : Type 0
@@ -56,7 +74,7 @@ FrameOfColours = (image : Image) (state : State) → Each Colour (pixels (frameC
 
 -- a line uses 40 screen bytes
 abbrev pub LineUsesScreenBytes : Type 0
-LineUsesScreenBytes = (image : Image) (counter line mode : ℕ) → length (screenAddresses (lineCells image counter line mode)) ≡ columns
+LineUsesScreenBytes = (ram : Ram) (counter line mode : ℕ) → length (screenAddresses (lineCells ram counter line mode)) ≡ columns
 
 -- a frame uses 8,960 screen bytes
 abbrev pub FrameUsesScreenBytes : Type 0
@@ -71,8 +89,9 @@ StatesStayWithin =
 abbrev pub CellOfFrame : Type 0
 CellOfFrame =
     (image : Image) (state : State) (line column : ℕ) (other : Cell) → line < lines → column < columns
-    → getD (frameCells image state) (columns * line + column) other
-    ≡ cellAt image (state .counter) line (modeBefore image (state .mode) line) column
+    → let ram = ramOf image state in
+    getD (frameCells image state) (columns * line + column) other
+    ≡ cellAt ram (state .counter) line (modeBefore ram (state .mode) line) column
 
 -- pixel 6 x i + k of cells of six colours is colour k of cell i
 abbrev pub PixelOfCell : Type 0
@@ -89,10 +108,40 @@ CellsOfSix = (image : Image) (state : State) → Each (λ (c : Cell). length (c 
 abbrev pub PathByScreenBytes : Type 0
 PathByScreenBytes =
     (first second : Image) (state : State) → Agree first second (screenAddresses (frameCells first state))
-    → (line : ℕ) → line ≤ lines → modeBefore second (state .mode) line ≡ modeBefore first (state .mode) line
+    → (line : ℕ) → line ≤ lines → modeBefore (ramOf second state) (state .mode) line ≡ modeBefore (ramOf first state) (state .mode) line
 
 -- a frame depends on the bytes at its used addresses alone
 abbrev pub FrameByUsedBytes : Type 0
 FrameByUsedBytes =
     (first second : Image) (state : State) → Agree first second (used (frameCells first state))
     → frameCells second state ≡ frameCells first state
+
+-- a cell with its addresses folded
+abbrev pub foldedCell : ℕ → Cell → Cell
+foldedCell profile c =
+    record {
+      line = c .line;
+      mode = c .mode;
+      screen = folded profile (c .screen);
+      character = Option·map (folded profile) (c .character);
+      colours = c .colours;
+      registers = c .registers;
+    }
+
+-- the image of a 16K machine stands in that of a 48K machine from 8000 to BFFF
+abbrev pub StandsAt8000 : Image → Image → Type 0
+StandsAt8000 small large = (address : ℕ) → address < imageLength 1 → byteAt large (0x8000 + address) ≡ byteAt small address
+
+-- then both paint the same cells, but for the addresses, which are folded
+abbrev pub FrameFolds : Type 0
+FrameFolds =
+    (small large : Image) (state : State) → StandsAt8000 small large
+    → frameCells small (withProfile 1 state) ≡ map (foldedCell 1) (frameCells large (withProfile 0 state))
+
+-- so they show the same pixels, use as many bytes and leave the same mode
+abbrev pub FoldedFrameShowsSame : Type 0
+FoldedFrameShowsSame =
+    (small large : Image) (state : State) → StandsAt8000 small large
+    → let folding = frameCells small (withProfile 1 state) in
+    let plain = frameCells large (withProfile 0 state) in
+    (pixels folding ≡ pixels plain) × (painted state folding ≡ painted state plain)

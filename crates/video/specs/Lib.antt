@@ -1,4 +1,5 @@
 pub mod State
+pub mod Ram
 pub mod Address
 pub mod Registers
 pub mod Pattern

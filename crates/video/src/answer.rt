@@ -11,6 +11,7 @@ use machine::counter_refusal;
 use machine::memory_refusal;
 use machine::mode_refusal;
 use machine::output_refusal;
+use machine::profile_refusal;
 
 #[repr(C)]
 pub struct Painted {
@@ -22,7 +23,7 @@ pub struct Painted {
     pub character: u32,
 }
 
-// Refusals 1, 2, 3, 4, which lines and frames share.
+// Refusals 12, 1, 2, 3, 4, which lines and frames share.
 pub(crate) fn painting_refusal(
     memory: usize,
     wanted: usize,
@@ -32,8 +33,10 @@ pub(crate) fn painting_refusal(
 ) -> u8
     ensures { λ r. ⌜ r ≡ refusalBefore (paintingChecks memory wanted output state) later ⌝ }
 {
+    let profile = state.profile;
     let wrong_state = mode_refusal(state.mode, counter_refusal(state.counter, later));
-    memory_refusal(memory, output_refusal(wanted, output, wrong_state))
+    let wrong_output = output_refusal(wanted, output, wrong_state);
+    profile_refusal(profile, memory_refusal(profile, memory, wrong_output))
 }
 
 pub(crate) fn refused(status: u8, state: State) -> Painted

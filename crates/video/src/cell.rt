@@ -4,7 +4,7 @@ ghost use Prim.Native.Nat.{_≤_, _<_};
 ghost use Rattle.machine.specs.Image.{IsImage};
 ghost use Rattle.machine.specs.Sizes.{columns, lines};
 ghost use Rattle.video.specs.Cell.{cell};
-ghost use Rattle.video.specs.Internal.{scanline, paintedCell};
+ghost use Rattle.video.specs.Internal.{scanline, ramBy, paintedCell};
 use crate::address::Scanline;
 use crate::bits::choose;
 use crate::bits::choose_address;
@@ -27,11 +27,11 @@ pub(crate) fn paint_cell(
     column: usize,
     before: Registers,
 ) -> PaintedCell
-    requires { ⌜ IsImage (now memory) ⌝ }
+    requires { ⌜ IsImage (line .profile) (now memory) ⌝ }
     requires { ⌜ (line .number < lines) × (column < columns) ⌝ }
-    requires { ⌜ line ≡ scanline (line .number) ⌝ }
+    requires { ⌜ line ≡ scanline (line .profile) (line .number) ⌝ }
     requires { ⌜ (before .ink ≤ 7) × (before .paper ≤ 7) ⌝ }
-    ensures { λ r. ⌜ r ≡ paintedCell (cell (now (memory .entry)) counter (line .number) column before) ⌝ }
+    ensures { λ r. ⌜ r ≡ paintedCell (cell (ramBy (now (memory .entry)) line) counter (line .number) column before) ⌝ }
 {
     let screen = line.screen_address(column, before.mode);
     let byte = memory[screen];

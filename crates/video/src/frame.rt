@@ -20,7 +20,7 @@ use machine::FRAME_LENGTH;
 use machine::LINE_LENGTH;
 use machine::LINES;
 
-// One painted frame. Refusals 1, 2, 3, 4.
+// One painted frame. Refusals 12, 1, 2, 3, 4.
 pub fn paint_frame(memory: &[u8], state: State, frame: &mut [u8]) -> Painted
     ensures { λ r. ⌜ r ≡ frameAnswer (now (memory .entry)) state (now (frame .entry)) ⌝ }
     ensures { λ r. ⌜ now (frame .exit) ≡ frameContents (now (memory .entry)) state (now (frame .entry)) ⌝ }
@@ -33,7 +33,7 @@ pub fn paint_frame(memory: &[u8], state: State, frame: &mut [u8]) -> Painted
 }
 
 fn fill_frame(memory: &[u8], state: State, frame: &mut [u8]) -> Painted
-    requires { ⌜ IsImage (now memory) ⌝ }
+    requires { ⌜ IsImage (state .profile) (now memory) ⌝ }
     requires { ⌜ length (now frame) ≡ frameLength ⌝ }
     requires { ⌜ Within state ⌝ }
     ensures { λ r. ⌜ r ≡ painted (afterFrame state) (frameCells (now (memory .entry)) state) ⌝ }
@@ -47,7 +47,7 @@ fn fill_frame(memory: &[u8], state: State, frame: &mut [u8]) -> Painted
         let from = LINE_LENGTH * line;
         let painted = fill_line(
             memory,
-            state.counter,
+            state,
             line,
             registers,
             &mut frame[from..from + LINE_LENGTH],

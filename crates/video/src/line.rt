@@ -9,6 +9,7 @@ ghost use Rattle.video.specs.Answer.{lineAnswer, lineContents};
 ghost use Rattle.video.specs.Cell.{Cell, pixels};
 ghost use Rattle.video.specs.Internal.{paintedLine};
 ghost use Rattle.video.specs.Line.{lineCells};
+ghost use Rattle.video.specs.Ram.{ramOf};
 use crate::address::Scanline;
 use crate::answer::Painted;
 use crate::answer::answer;
@@ -31,7 +32,7 @@ pub(crate) struct PaintedLine {
     pub character: u64,
 }
 
-// One painted line. Refusals 1, 2, 3, 4, 5.
+// One painted line. Refusals 12, 1, 2, 3, 4, 5.
 pub fn paint_line(memory: &[u8], state: State, line: usize, output: &mut [u8]) -> Painted
     ensures { λ r. ⌜ r ≡ lineAnswer (now (memory .entry)) state line (now (output .entry)) ⌝ }
     ensures { λ r. ⌜ now (output .exit) ≡ lineContents (now (memory .entry)) state line (now (output .entry)) ⌝ }
@@ -42,26 +43,27 @@ pub fn paint_line(memory: &[u8], state: State, line: usize, output: &mut [u8]) -
         return refused(status, state);
     }
     let before = Registers::at_line_start(wide(state.mode));
-    let painted = fill_line(memory, state.counter, line, before, output);
+    let painted = fill_line(memory, state, line, before, output);
     let registers = painted.registers;
     answer(state, registers.mode, painted.screen, painted.character)
 }
 
+// The state gives counter and profile; the mode is that of the registers.
 pub(crate) fn fill_line(
     memory: &[u8],
-    counter: u8,
+    state: State,
     line: usize,
     before: Registers,
     output: &mut [u8],
 ) -> PaintedLine
-    requires { ⌜ IsImage (now memory) ⌝ }
+    requires { ⌜ IsImage (state .profile) (now memory) ⌝ }
     requires { ⌜ line < lines ⌝ }
     requires { ⌜ length (now output) ≡ lineLength ⌝ }
-    ensures { λ r. ⌜ r ≡ paintedLine (now (memory .entry)) counter line (before .mode) ⌝ }
-    ensures { λ r. ⌜ now (output .exit) ≡ pixels (lineCells (now (memory .entry)) counter line (before .mode)) ⌝ }
+    ensures { λ r. ⌜ r ≡ paintedLine (ramOf (now (memory .entry)) state) (state .counter) line (before .mode) ⌝ }
+    ensures { λ r. ⌜ now (output .exit) ≡ pixels (lineCells (ramOf (now (memory .entry)) state) (state .counter) line (before .mode)) ⌝ }
 {
     let mut cells = [[0u8; 6]; 40];
-    let painted = paint_cells(memory, counter, line, before, &mut cells);
+    let painted = paint_cells(memory, state, line, before, &mut cells);
     let mut column: usize = 0;
     while column < COLUMNS {
         let from = CELL_LENGTH * column;
@@ -77,24 +79,24 @@ pub(crate) fn fill_line(
 
 fn paint_cells(
     memory: &[u8],
-    counter: u8,
+    state: State,
     line: usize,
     before: Registers,
     cells: &mut [[u8; 6]; 40],
 ) -> PaintedLine
-    requires { ⌜ IsImage (now memory) ⌝ }
+    requires { ⌜ IsImage (state .profile) (now memory) ⌝ }
     requires { ⌜ line < lines ⌝ }
     requires { ⌜ length (now cells) ≡ columns ⌝ }
-    ensures { λ r. ⌜ r ≡ paintedLine (now (memory .entry)) counter line (before .mode) ⌝ }
-    ensures { λ r. ⌜ now (cells .exit) ≡ map (λ (c : Cell). c .colours) (lineCells (now (memory .entry)) counter line (before .mode)) ⌝ }
+    ensures { λ r. ⌜ r ≡ paintedLine (ramOf (now (memory .entry)) state) (state .counter) line (before .mode) ⌝ }
+    ensures { λ r. ⌜ now (cells .exit) ≡ map (λ (c : Cell). c .colours) (lineCells (ramOf (now (memory .entry)) state) (state .counter) line (before .mode)) ⌝ }
 {
-    let place = Scanline::new(line);
+    let place = Scanline::new(state.profile, line);
     let mut registers = before.line_reset();
     let mut screen: u64 = 0;
     let mut character: u64 = 0;
     let mut column: usize = 0;
     while column < COLUMNS {
-        let cell = paint_cell(memory, counter, place, column, registers);
+        let cell = paint_cell(memory, state.counter, place, column, registers);
         let colours = cell.colours;
         cells[column] = colours;
         registers = cell.registers;

@@ -4,6 +4,7 @@ ghost use Prim.Native.Nat.{_≤_};
 ghost use Rattle.machine.specs.Sizes.{lastCount};
 ghost use Rattle.video.specs.State.{freshState, withMode, nextCounter, afterFrame};
 use machine::LAST_COUNT;
+use machine::PROFILE_48K;
 
 const FRESH_MODE: u8 = 2;
 
@@ -13,6 +14,8 @@ pub struct State {
     pub mode: u8,
     // The flash counter, 0 to 31.
     pub counter: u8,
+    // The machine: 0 is 48K, 1 is 16K.
+    pub profile: u8,
 }
 
 pub fn fresh_state() -> State
@@ -21,6 +24,7 @@ pub fn fresh_state() -> State
     State {
         mode: FRESH_MODE,
         counter: 0,
+        profile: PROFILE_48K,
     }
 }
 
@@ -31,6 +35,7 @@ impl State {
         State {
             mode,
             counter: self.counter,
+            profile: self.profile,
         }
     }
 
@@ -42,6 +47,7 @@ impl State {
         State {
             mode: self.mode,
             counter: next_counter(self.counter),
+            profile: self.profile,
         }
     }
 }

@@ -55,22 +55,22 @@ module _ {M : Type 1} (𝓤 : URA M) (H : Heap 𝓤) (A : Atoms 𝓤) (W : Given
     walk : Known κs a → ent 𝓤 (onEntry 𝓤 H A exported.signature κs qs a (passed κs a)) (WpFn 𝓤 H C Λ code.function (flat (Params κs) (passed κs a)) (InPlace .post same))
     walk are =
         qed W (raw (onEntry 𝓤 H A exported.signature κs qs a (passed κs a)) ∷ []) ∵ enter ! C Λ code.function (flat (Params κs) (passed κs a)) _ $
-        alloc1 ! (λ l₀. alloc1 ! (λ l₁. alloc1 ! (λ l₂. alloc1 ! (λ l₃. alloc1 ! (λ l₄. alloc1 ! (λ l₅. alloc1 ! (λ l₆. alloc1 ! (λ l₇. alloc0 ! $ params1 ! $
-        pass1 ! (init ! 12 refl (tt, (tt, (record { fits = are .0 .0 .1 .0 }, tt)))) $ pass1 ! (init ! 10 refl (tt, tt)) $ pass1 ! (init ! 8 refl (tt, record { fits = are .1 .1 .0 .1 })) $ pass1 ! (init ! 6 refl (tt, record { fits = are .1 .1 .1 .0 .1 })) $ pass0 ! $
+        alloc1 ! (λ l₀. alloc1 ! (λ l₁. alloc1 ! (λ l₂. alloc1 ! (λ l₃. alloc1 ! (λ l₄. alloc1 ! (λ l₅. alloc1 ! (λ l₆. alloc1 ! (λ l₇. alloc1 ! (λ l₈. alloc0 ! $ params1 ! $
+        pass1 ! (init ! 14 refl (tt, (tt, (record { fits = are .0 .0 .1 .0 }, tt)))) $ pass1 ! (init ! 12 refl (tt, record { fits = are .1 .0 .1 })) $ pass1 ! (init ! 10 refl (tt, tt)) $ pass1 ! (init ! 8 refl (tt, record { fits = are .1 .1 .1 .0 .1 })) $ pass1 ! (init ! 6 refl (tt, record { fits = are .1 .1 .1 .1 .0 .1 })) $ pass0 ! $
         -- the memory and the record are lent on
-        assigns ! (addr ! (from ! (fld ! refl (hop ! (look-in ! 12 (sub ! 0 refl (whole !))) (stop !))))) (from ! (stop !)) (init ! 4 refl (tt, tt)) $
-        assigns ! (agg ! (and-then ! (load ! (from ! (stop !)) (look ! 4 refl)) (and-then ! (load ! (from ! (fld ! refl (stop !))) (look-in ! 12 (sub ! 1 refl (whole !)))) (no-more !)))) (from ! (stop !)) (init ! 2 refl (tt, (tt, (record { fits = are .0 .0 .1 .0 }, tt)))) $
+        assigns ! (addr ! (from ! (fld ! refl (hop ! (look-in ! 14 (sub ! 0 refl (whole !))) (stop !))))) (from ! (stop !)) (init ! 4 refl (tt, tt)) $
+        assigns ! (agg ! (and-then ! (load ! (from ! (stop !)) (look ! 4 refl)) (and-then ! (load ! (from ! (fld ! refl (stop !))) (look-in ! 14 (sub ! 1 refl (whole !)))) (no-more !)))) (from ! (stop !)) (init ! 2 refl (tt, (tt, (record { fits = are .0 .0 .1 .0 }, tt)))) $
         assigns ! (addr ! (from ! (hop ! (look ! 10 refl) (stop !)))) (from ! (stop !)) (init ! 0 refl (tt, tt)) $
         -- the call, at what is bound here
-        nothing ! $ move ! (17 ∷ 0 ∷ []) $ use2 W (raw (InPlace .pre same)) (id⊢ 𝓤 _) $
-        calls-at ! fm InPlace known same (and-then ! (load ! (from ! (stop !)) (look ! 3 refl)) (and-then ! (load ! (from ! (stop !)) (look ! 1 refl)) (and-then ! (load ! (from ! (stop !)) (look ! 9 refl)) (and-then ! (load ! (from ! (stop !)) (look ! 7 refl)) (no-more !))))) (λ w.
+        nothing ! $ move ! (19 ∷ 0 ∷ []) $ use2 W (raw (InPlace .pre same)) (id⊢ 𝓤 _) $
+        calls-at ! fm InPlace known same (and-then ! (load ! (from ! (stop !)) (look ! 3 refl)) (and-then ! (load ! (from ! (stop !)) (look ! 13 refl)) (and-then ! (load ! (from ! (stop !)) (look ! 1 refl)) (and-then ! (load ! (from ! (stop !)) (look ! 9 refl)) (and-then ! (load ! (from ! (stop !)) (look ! 7 refl)) (no-more !)))))) (λ w.
         use1 W (later (some (λ (r : Access). (raw (alive 𝓤 H A in-place.signature κs qs) ⊛ ‵ (access-type.the-row .own r (w ∷ []))) ⊛ raw (in-place.spec 𝓤 H A at-mem run κs a .ensures tt r)))) (id⊢ 𝓤 _) $ await ! tt $ pick ! (λ r.
         -- the answer is stored and returned, and what is owned of it goes back to its place
         split ! $ split ! $ move ! (1 ∷ []) $ peeks ! access-type.the-row (Is access-type.the-row) (shows 𝓤 H A access-type.the-row) r (w ∷ []) (λ is.
-        land ! (from ! (stop !)) (init ! 17 refl (LL.lawful access-type.the-type access-laws.the-laws 𝓤 H A W .typed r _ is .0)) $
-        returns ! (look ! 17 refl) $ move ! (17 ∷ 18 ∷ []) $ freed ! $ move ! (15 ∷ 16 ∷ []) $ freed ! $ move ! (13 ∷ 14 ∷ []) $ freed ! $ move ! (11 ∷ 12 ∷ []) $ freed ! $
+        land ! (from ! (stop !)) (init ! 19 refl (LL.lawful access-type.the-type access-laws.the-laws 𝓤 H A W .typed r _ is .0)) $
+        returns ! (look ! 19 refl) $ move ! (19 ∷ 20 ∷ []) $ freed ! $ move ! (17 ∷ 18 ∷ []) $ freed ! $ move ! (15 ∷ 16 ∷ []) $ freed ! $ move ! (13 ∷ 14 ∷ []) $ freed ! $ move ! (11 ∷ 12 ∷ []) $ freed ! $
         move ! (9 ∷ 10 ∷ []) $ freed ! $ move ! (7 ∷ 8 ∷ []) $ freed ! $ move ! (5 ∷ 6 ∷ []) $ freed ! $ move ! (3 ∷ 4 ∷ []) $ freed ! $ free0 ! $
-        suffices ! _ (W .laws .⇛-intro _) $ show ! (Answered w) r $ move ! (1 ∷ 0 ∷ []) $ join ! $ done !)))))))))))
+        suffices ! _ (W .laws .⇛-intro _) $ show ! (Answered w) r $ move ! (1 ∷ 0 ∷ []) $ join ! $ done !))))))))))))
 
   -- the walk is at the machine values written out, and the contract at those that the types relate
   exported-meets : (𝓣 : Tables 𝓤 H) → Triple 𝓤 (𝓣 .C #write-in-place) InPlace → Meets 𝓤 H A exported.signature (WpFn 𝓤 H (𝓣 .C) (𝓣 .Λ) code.function) (exported.spec 𝓤 H A at-mem run)

@@ -5,4 +5,4 @@ use Rattle.bus.proofs.cycle.access_refusal.Statement.{statement}
 use Rattle.bus.proofs.cycle.access_refusal.Tie as tie
 
 pub access-refusal-spec : {M : Type 1} → statement M
-access-refusal-spec = tie.close (tie.spec (λ c κs. tt) (λ c κs. tt) (λ c. search nested))
+access-refusal-spec = tie.close (tie.spec (λ c κs. tt) (λ c κs. tt) (λ c κs. tt) (λ c κs. tt) (λ c. search nested))

@@ -1,9 +1,11 @@
 -- `bus::write` meets its contract: the status decides between the refusal and what the place stores.
 -- Assumes nothing.
 use mathlib.Core.Path.{sym, _∙_}
+use denote.Ref.{now}
 use borrow.Author.Needs.{needs}
-use Rattle.machine.proofs.Refusals.{refused, memory-passed}
+use Rattle.machine.proofs.Refusals.{refused}
 use Rattle.bus.specs.Cycle.{writeAnswer, writeContents, writeLatches}
+use Rattle.bus.proofs.Held.{accepted-held}
 use Rattle.bus.proofs.cycle.write.Statement.{statement}
 use Rattle.bus.proofs.cycle.write.Tie as tie
 
@@ -15,8 +17,13 @@ refused-returns c =
 
 store-requires : tie.Need-store-requires
 store-requires c κs =
-    let passed = c .before .before in
-    memory-passed _ _ (sym (passed .before .access-refusal .ensures) ∙ passed .if1 .left) .holds
+    let reached = c .before in
+    let passed = reached .before in
+    let start = passed .before .before .before in
+    let a = start .args in
+    rw (reached .reach .ensures)
+    (accepted-held (now (a .memory)) (a .profile) (a .latches) (a .address) (start .fits .address .fits)
+    (sym (passed .before .access-refusal .ensures) ∙ passed .if1 .left))
 
 done-returns : tie.Need-returns-2
 unfolding writeAnswer writeContents writeLatches

@@ -97,52 +97,55 @@ module _ {M : Type 1} (𝓤 : URA M) (H : Heap 𝓤) (A : Atoms 𝓤) (W : Given
   latches-lawful = LL.lawful latches-type.the-type latches-laws.the-laws 𝓤 H A W
 
   module _ (κs : Lfts 2) (qs : Shares 2) (a : Denots (Params κs)) where
-    -- the arguments: the memory's bytes, the record, the address and the byte
+    -- the arguments: the memory's bytes, the profile, the record, the address and the byte
     abbrev ys : List ℕ
     ys = now (a .0)
 
+    abbrev p : ℕ
+    p = a .1 .0
+
     abbrev h : Latches
-    h = now (a .1 .0)
+    h = now (a .1 .1 .0)
 
     abbrev n : ℕ
-    n = a .1 .1 .0
+    n = a .1 .1 .1 .0
 
     abbrev v : ℕ
-    v = a .1 .1 .1 .0
+    v = a .1 .1 .1 .1 .0
 
     -- where the record lies, and the name of its borrow
     abbrev at : ℕ × ℕ
-    at = ptr (a .1 .0)
+    at = ptr (a .1 .1 .0)
 
     abbrev γ : GName
-    γ = name (a .1 .0)
+    γ = name (a .1 .1 .0)
 
     -- what is bound outside the two triples. `write` has the memory's own lifetime, share and name, and the record that was read
     abbrev here : InPlace .Ghost
     here = ((κs, qs, tt, a, passed κs a), tt)
 
     abbrev to-write : Write .Ghost
-    to-write = (((κs .0, tt), (qs .0, tt), tt, (a .0, (h, a .1 .1)), (passed κs a .0, (latches-vals h, passed κs a .1 .1))), tt)
+    to-write = (((κs .0, tt), (qs .0, tt), tt, (a .0, (p, (h, a .1 .1 .1))), (passed κs a .0, (passed κs a .1 .0, (latches-vals h, passed κs a .1 .1 .1)))), tt)
 
     -- what `write` says of its answer and of the last memory
     abbrev Answers : Written → Type 0
-    Answers r = r ≡ written (writeAnswer ys h n) (writeLatches ys h n v)
+    Answers r = r ≡ written (writeAnswer ys p h n) (writeLatches ys p h n v)
 
     abbrev Leaves : List ℕ → Type 0
-    Leaves zs = zs ≡ writeContents ys h n v
+    Leaves zs = zs ≡ writeContents ys p h n v
 
     abbrev LastMemory : Type 0
-    LastMemory = Lasts write.ended (κs .0, tt) (a .0, (h, a .1 .1))
+    LastMemory = Lasts write.ended (κs .0, tt) (a .0, (p, (h, a .1 .1 .1)))
 
     abbrev last : LastMemory → Fml
-    last = lasts write.ended (κs .0, tt) (a .0, (h, a .1 .1))
+    last = lasts write.ended (κs .0, tt) (a .0, (p, (h, a .1 .1 .1)))
 
     -- what `write` asks, from the memory's token and borrow
     goes-write : Known κs a → LatchesKnown h → ent 𝓤 (sep 𝓤 (A .lft (κs .0) (qs .0)) (sem 𝓤 H A (MutSlice (named 0) (κs .0) u8 .own (a .0) (passed κs a .0)))) (Write .pre to-write)
     goes-write are was =
         qed W (‵ (flft (κs .0) (qs .0)) ∷ ‵ (MutSlice (named 0) (κs .0) u8 .own (a .0) (passed κs a .0)) ∷ []) ∵
-        nothing ! $ owned ! u8 (Is u8) (uint-makes 𝓤 H A W w8) v _ (are .1 .1 .1 .0) $ fjoin ! $ owned ! u16 (Is u16) (uint-makes 𝓤 H A W w16) n _ (are .1 .1 .0) $ fjoin ! $
-        owned ! latches-type.the-row (Is latches-type.the-row) ((LL.makes latches-type.the-type latches-laws.the-plain) 𝓤 H A) h _ was $ fjoin ! $ move ! (2 ∷ 0 ∷ []) $ fjoin ! $
+        nothing ! $ owned ! u8 (Is u8) (uint-makes 𝓤 H A W w8) v _ (are .1 .1 .1 .1 .0) $ fjoin ! $ owned ! u16 (Is u16) (uint-makes 𝓤 H A W w16) n _ (are .1 .1 .1 .0) $ fjoin ! $
+        owned ! latches-type.the-row (Is latches-type.the-row) ((LL.makes latches-type.the-type latches-laws.the-plain) 𝓤 H A) h _ was $ fjoin ! $ owned ! u8 (Is u8) (uint-makes 𝓤 H A W w8) p _ (are .1 .0) $ fjoin ! $ move ! (2 ∷ 0 ∷ []) $ fjoin ! $
         nothing ! $ move ! (2 ∷ 0 ∷ []) $ join ! $ join ! $ frame ! $ done !
 
     -- at exit, from what `write` answers and says of the memory: the record's last value is the answer's
@@ -157,47 +160,47 @@ module _ {M : Type 1} (𝓤 : URA M) (H : Heap 𝓤) (A : Atoms 𝓤) (W : Given
         move ! (2 ∷ []) $ split ! $ move ! (3 ∷ 1 ∷ []) $ join ! $ move ! (1 ∷ 0 ∷ []) $ join ! $
         owned ! access-type.the-row (Is access-type.the-row) ((LL.makes access-type.the-type access-laws.the-plain) 𝓤 H A) (access r) _ (access-known r w is) $ move ! (1 ∷ 0 ∷ []) $ join ! $ frame ! $
         -- the last values, and the three facts
-        show ! (λ (ws : Lasts in-place.ended κs a). sep 𝓤 (sem 𝓤 H A (lasts in-place.ended κs a ws)) (in-place.clauses 𝓤 H A at-mem run κs a .ensures tt (access r) (atExit in-place.ended κs a ws))) (zs .0, (r .latches, (tt, (tt, tt)))) $
+        show ! (λ (ws : Lasts in-place.ended κs a). sep 𝓤 (sem 𝓤 H A (lasts in-place.ended κs a ws)) (in-place.clauses 𝓤 H A at-mem run κs a .ensures tt (access r) (atExit in-place.ended κs a ws))) (zs .0, (tt, (r .latches, (tt, (tt, tt))))) $
         says-three ! (ap access e) m (ap (λ (u : Written). u .latches) e) $
-        use1 W (‵ (fres γ (latches-type.the-row .coded .code (r .latches)))) (W .names .obs-res _ _) $ move ! (1 ∷ []) $ fsplit ! $ move ! (1 ∷ []) $ fsplit ! $ drop ! $ move ! (2 ∷ 0 ∷ []) $ fjoin ! $ move ! (1 ∷ 0 ∷ []) $ fjoin ! $ done !
+        use1 W (‵ (fres γ (latches-type.the-row .coded .code (r .latches)))) (W .names .obs-res _ _) $ move ! (1 ∷ []) $ fsplit ! $ move ! (1 ∷ []) $ fsplit ! $ move ! (1 ∷ []) $ fsplit ! $ drop ! $ move ! (3 ∷ 0 ∷ []) $ fjoin ! $ move ! (1 ∷ 0 ∷ []) $ fjoin ! $ move ! (1 ∷ 0 ∷ []) $ fjoin ! $ done !
 
     module _ (C : Calls 𝓤 H) (Λ : Loops 𝓤 H) (fm : FmC 𝓤 H (W .laws) C) (known : Triple 𝓤 (C #write) Write) where
       walk : Known κs a → ent 𝓤 (onEntry 𝓤 H A in-place.signature κs qs a (passed κs a)) (WpFn 𝓤 H C Λ code.function (flat (Params κs) (passed κs a)) (InPlace .post here))
       walk are =
           qed W ((‵ (flft (κs .0) (qs .0)) ⊛ ‵ (flft (κs .1 .0) (qs .1 .0)) ⊛ ‵ ftrue) ∷ ‵ (owns (Params κs) a (passed κs a)) ∷ []) ∵
-          split3 ! $ move ! (3 ∷ []) $ fsplit ! $ move ! (1 ∷ []) $ fsplit ! $ fsplit3 ! $ drop ! $ keep ! (0 ∷ 1 ∷ 5 ∷ 4 ∷ 3 ∷ []) $
+          split3 ! $ move ! (3 ∷ []) $ fsplit ! $ move ! (1 ∷ []) $ fsplit ! $ move ! (1 ∷ []) $ fsplit ! $ fsplit3 ! $ drop ! $ keep ! (0 ∷ 1 ∷ 6 ∷ 5 ∷ 4 ∷ []) $
           -- [obs of the record; its borrow; its token; the memory's token; the memory's borrow]
           enter ! C Λ code.function (flat (Params κs) (passed κs a)) _ $
-          alloc1 ! (λ l₀. alloc1 ! (λ l₁. alloc1 ! (λ l₂. alloc1 ! (λ l₃. alloc1 ! (λ l₄. alloc1 ! (λ l₅. alloc1 ! (λ l₆. alloc1 ! (λ l₇. alloc1 ! (λ l₈. alloc0 ! $ params1 ! $
-          pass1 ! (init ! 14 refl (tt, (tt, (record { fits = are .0 .0 .1 .0 }, tt)))) $ pass1 ! (init ! 12 refl (tt, tt)) $ pass1 ! (init ! 10 refl (tt, record { fits = are .1 .1 .0 .1 })) $ pass1 ! (init ! 8 refl (tt, record { fits = are .1 .1 .1 .0 .1 })) $ pass0 ! $
+          alloc1 ! (λ l₀. alloc1 ! (λ l₁. alloc1 ! (λ l₂. alloc1 ! (λ l₃. alloc1 ! (λ l₄. alloc1 ! (λ l₅. alloc1 ! (λ l₆. alloc1 ! (λ l₇. alloc1 ! (λ l₈. alloc1 ! (λ l₉. alloc0 ! $ params1 ! $
+          pass1 ! (init ! 16 refl (tt, (tt, (record { fits = are .0 .0 .1 .0 }, tt)))) $ pass1 ! (init ! 14 refl (tt, record { fits = are .1 .0 .1 })) $ pass1 ! (init ! 12 refl (tt, tt)) $ pass1 ! (init ! 10 refl (tt, record { fits = are .1 .1 .1 .0 .1 })) $ pass1 ! (init ! 8 refl (tt, record { fits = are .1 .1 .1 .1 .0 .1 })) $ pass0 ! $
           -- the memory is lent on
-          assigns ! (addr ! (from ! (fld ! refl (hop ! (look-in ! 14 (sub ! 0 refl (whole !))) (stop !))))) (from ! (stop !)) (init ! 4 refl (tt, tt)) $
-          assigns ! (agg ! (and-then ! (load ! (from ! (stop !)) (look ! 4 refl)) (and-then ! (load ! (from ! (fld ! refl (stop !))) (look-in ! 14 (sub ! 1 refl (whole !)))) (no-more !)))) (from ! (stop !)) (init ! 2 refl (tt, (tt, (record { fits = are .0 .0 .1 .0 }, tt)))) $
+          assigns ! (addr ! (from ! (fld ! refl (hop ! (look-in ! 16 (sub ! 0 refl (whole !))) (stop !))))) (from ! (stop !)) (init ! 4 refl (tt, tt)) $
+          assigns ! (agg ! (and-then ! (load ! (from ! (stop !)) (look ! 4 refl)) (and-then ! (load ! (from ! (fld ! refl (stop !))) (look-in ! 16 (sub ! 1 refl (whole !)))) (no-more !)))) (from ! (stop !)) (init ! 2 refl (tt, (tt, (record { fits = are .0 .0 .1 .0 }, tt)))) $
           -- the record's borrow is opened, and the record is read
-          move ! (18 ∷ 19 ∷ 20 ∷ []) $ opens ! tt latches-type.the-row {h = h} (at .0) (at .1) (λ vs.
+          move ! (20 ∷ 21 ∷ 22 ∷ []) $ opens ! tt latches-type.the-row {h = h} (at .0) (at .1) (λ vs.
           spelt ! latches-type.the-row (Is latches-type.the-row) (shows 𝓤 H A latches-type.the-row) latches-vals (LL.tells latches-type.the-type latches-laws.the-laws) fullShare h vs (at .0) (at .1) $
           move ! (1 ∷ []) $ facts ! latches-type.the-row (Is latches-type.the-row) (shows 𝓤 H A latches-type.the-row) h (latches-vals h) (λ was.
           assigns ! (of-opd ! (load ! (from ! (hop ! (look ! 16 refl) (stop !))) (look-raw ! 0 refl))) (from ! (stop !)) (init ! 4 refl (latches-lawful .typed h _ was .0)) $
           -- `write` is called, and the memory's token and borrow go to it
-          move ! (22 ∷ 23 ∷ []) $ use2 W (raw (Write .pre to-write)) (goes-write are was) $
-          calls-at ! fm Write known to-write (and-then ! (load ! (from ! (stop !)) (look ! 7 refl)) (and-then ! (load ! (from ! (stop !)) (look ! 5 refl)) (and-then ! (load ! (from ! (stop !)) (look ! 15 refl)) (and-then ! (load ! (from ! (stop !)) (look ! 13 refl)) (no-more !))))) (λ w.
-          use1 W (later (some (λ (r : Written). ((‵ (flft (κs .0) (qs .0)) ⊛ ‵ ftrue) ⊛ ‵ (written-type.the-row .own r (w ∷ []))) ⊛ raw (ensured 𝓤 H A write.ended (write.clauses 𝓤 H A at-mem run) (κs .0, tt) (a .0, (h, a .1 .1)) tt r)))) (id⊢ 𝓤 _) $ await ! tt $ pick ! (λ r.
+          move ! (24 ∷ 25 ∷ []) $ use2 W (raw (Write .pre to-write)) (goes-write are was) $
+          calls-at ! fm Write known to-write (and-then ! (load ! (from ! (stop !)) (look ! 7 refl)) (and-then ! (load ! (from ! (stop !)) (look ! 19 refl)) (and-then ! (load ! (from ! (stop !)) (look ! 5 refl)) (and-then ! (load ! (from ! (stop !)) (look ! 15 refl)) (and-then ! (load ! (from ! (stop !)) (look ! 13 refl)) (no-more !)))))) (λ w.
+          use1 W (later (some (λ (r : Written). ((‵ (flft (κs .0) (qs .0)) ⊛ ‵ ftrue) ⊛ ‵ (written-type.the-row .own r (w ∷ []))) ⊛ raw (ensured 𝓤 H A write.ended (write.clauses 𝓤 H A at-mem run) (κs .0, tt) (a .0, (p, (h, a .1 .1 .1))) tt r)))) (id⊢ 𝓤 _) $ await ! tt $ pick ! (λ r.
           -- what it ensures, at some last memory
           split ! $ move ! (1 ∷ []) $ use1 W (some (λ (zs : LastMemory). ‵ (last zs) ⊛ (raw (fact 𝓤 (Answers r)) ⊛ raw (fact 𝓤 (Leaves (zs .0)))))) (id⊢ 𝓤 _) $ pick ! (λ zs.
           split ! $ move ! (1 ∷ []) $ split ! $ heard ! (Answers r) (λ e. heard ! (Leaves (zs .0)) (λ m.
           move ! (1 ∷ []) $ split ! $ move ! (1 ∷ []) $ facts ! written-type.the-row (Is written-type.the-row) (shows 𝓤 H A written-type.the-row) r (w ∷ []) (λ is.
-          -- [the memory's token; its last value; the record's cell; its open borrow; obs; auth; _8; …; _0; …]
+          -- [the memory's token; its last value; the record's cell; its open borrow; obs; auth; _9; …; _0; …]
           land ! (from ! (stop !)) (init ! 12 refl (LL.lawful written-type.the-type written-laws.the-laws 𝓤 H A W .typed r _ is .0)) $
-          rewrite ! 12 (λ (u : Val). ‵ (fat fullShare written-laws.mir l₅ 0 u)) (ap only (LL.tells written-type.the-type written-laws.the-laws r (w ∷ []) is)) refl $
+          rewrite ! 12 (λ (u : Val). ‵ (fat fullShare written-laws.mir l₆ 0 u)) (ap only (LL.tells written-type.the-type written-laws.the-laws r (w ∷ []) is)) refl $
           -- the record is stored, the answer is built, and the borrow is closed
           assigns ! (of-opd ! (load ! (from ! (fld ! refl (stop !))) (look-in ! 12 (sub ! 4 refl (whole !))))) (from ! (hop ! (look ! 18 refl) (stop !))) (store-raw ! 2 refl (latches-lawful .typed (r .latches) _ (latches-known r w is) .0)) $
-          assigns ! (agg ! (and-then ! (load ! (from ! (fld ! refl (stop !))) (look-in ! 12 (sub ! 0 refl (whole !)))) (and-then ! (load ! (from ! (fld ! refl (stop !))) (look-in ! 12 (sub ! 1 refl (whole !)))) (and-then ! (load ! (from ! (fld ! refl (stop !))) (look-in ! 12 (sub ! 2 refl (whole !)))) (and-then ! (load ! (from ! (fld ! refl (stop !))) (look-in ! 12 (sub ! 3 refl (whole !)))) (no-more !)))))) (from ! (stop !)) (init ! 22 refl (LL.lawful access-type.the-type access-laws.the-laws 𝓤 H A W .typed (access r) _ (access-known r w is) .0)) $
+          assigns ! (agg ! (and-then ! (load ! (from ! (fld ! refl (stop !))) (look-in ! 12 (sub ! 0 refl (whole !)))) (and-then ! (load ! (from ! (fld ! refl (stop !))) (look-in ! 12 (sub ! 1 refl (whole !)))) (and-then ! (load ! (from ! (fld ! refl (stop !))) (look-in ! 12 (sub ! 2 refl (whole !)))) (and-then ! (load ! (from ! (fld ! refl (stop !))) (look-in ! 12 (sub ! 3 refl (whole !)))) (no-more !)))))) (from ! (stop !)) (init ! 24 refl (LL.lawful access-type.the-type access-laws.the-laws 𝓤 H A W .typed (access r) _ (access-known r w is) .0)) $
           owned ! latches-type.the-row (Is latches-type.the-row) ((LL.makes latches-type.the-type latches-laws.the-plain) 𝓤 H A) (r .latches) _ (latches-known r w is) $
           move ! (3 ∷ 0 ∷ 4 ∷ 5 ∷ 6 ∷ []) $ closes ! tt latches-type.the-row (r .latches) (latches-vals (r .latches)) (at .0) (at .1) $
-          -- [obs of the record; its borrow; its token; the memory's token; its last value; _8; …; _0; …]
-          returns ! (look ! 21 refl) $ move ! (21 ∷ 22 ∷ []) $ freed ! $ move ! (19 ∷ 20 ∷ []) $ freed ! $ move ! (17 ∷ 18 ∷ []) $ freed ! $ move ! (15 ∷ 16 ∷ []) $ freed ! $ move ! (13 ∷ 14 ∷ []) $ freed ! $
+          -- [obs of the record; its borrow; its token; the memory's token; its last value; _9; …; _0; …]
+          returns ! (look ! 23 refl) $ move ! (23 ∷ 24 ∷ []) $ freed ! $ move ! (21 ∷ 22 ∷ []) $ freed ! $ move ! (19 ∷ 20 ∷ []) $ freed ! $ move ! (17 ∷ 18 ∷ []) $ freed ! $ move ! (15 ∷ 16 ∷ []) $ freed ! $ move ! (13 ∷ 14 ∷ []) $ freed ! $
           move ! (11 ∷ 12 ∷ []) $ freed ! $ move ! (9 ∷ 10 ∷ []) $ freed ! $ move ! (7 ∷ 8 ∷ []) $ freed ! $ move ! (5 ∷ 6 ∷ []) $ freed ! $ free0 ! $
-          keep ! (0 ∷ 2 ∷ 3 ∷ 4 ∷ []) $ by ! (exits r w zs is e m))))))))))))))))))
+          keep ! (0 ∷ 2 ∷ 3 ∷ 4 ∷ []) $ by ! (exits r w zs is e m)))))))))))))))))))
 
   -- the walk is at the machine values written out, and the contract at those that the types relate
   in-place-meets : (𝓣 : Tables 𝓤 H) → Triple 𝓤 (𝓣 .C #write) Write → Meets 𝓤 H A in-place.signature (WpFn 𝓤 H (𝓣 .C) (𝓣 .Λ) code.function) (in-place.spec 𝓤 H A at-mem run)

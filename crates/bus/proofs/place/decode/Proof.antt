@@ -7,11 +7,11 @@ use Rattle.bus.proofs.place.decode.Tie as tie
 
 refused-returns : tie.Need-returns
 unfolding decodeAnswer
-refused-returns c = simp (← c .before .kind-refusal .ensures, refused, c .if1 .taken)
+refused-returns c = simp (← c .before .decode-refusal .ensures, refused, c .if1 .taken)
 
 done-returns : tie.Need-returns-2
 unfolding decodeAnswer
-done-returns c = simp (c .reach .ensures, ← c .before .before .kind-refusal .ensures, c .before .if1 .left)
+done-returns c = simp (c .reach .ensures, ← c .before .before .decode-refusal .ensures, c .before .if1 .left)
 
 pub decode-spec : {M : Type 1} → statement M
 decode-spec = tie.close (tie.spec (λ c κs. tt) refused-returns (λ c κs. tt) done-returns)

@@ -6,10 +6,10 @@ use Rattle.figures.proofs.decoding.decode_all.Statement.{statement}
 use Rattle.figures.proofs.decoding.decode_all.Tie as tie
 
 abbrev Inv-loop : tie.InvT-loop
-Inv-loop latches tally₀ address₀ tally address = address ≤ 65536
+Inv-loop profile latches tally₀ address₀ tally address = address ≤ 65536
 
 abbrev μ-loop : tie.MeasureT-loop
-μ-loop latches tally₀ address₀ tally address = 65536 - address
+μ-loop profile latches tally₀ address₀ tally address = 65536 - address
 
 digest-start-requires : tie.Need-digest-start-requires Inv-loop μ-loop
 digest-start-requires c κs = search needs

@@ -6,10 +6,10 @@ use Rattle.figures.proofs.generated.frames.Statement.{statement}
 use Rattle.figures.proofs.generated.frames.Tie as tie
 
 abbrev Inv-loop : tie.InvT-loop
-Inv-loop i₀ i = i ≤ 255
+Inv-loop profile i₀ i = i ≤ 255
 
 abbrev μ-loop : tie.MeasureT-loop
-μ-loop i₀ i = 255 - i
+μ-loop profile i₀ i = 255 - i
 
 loop-holds : tie.Need-loop-holds Inv-loop μ-loop
 loop-holds c = search needs

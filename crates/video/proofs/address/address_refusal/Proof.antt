@@ -10,4 +10,4 @@ returns c = search nested
 pub address-refusal-spec : {M : Type 1} → statement M
 address-refusal-spec =
     tie.close
-    (tie.spec (λ c κs. tt) (λ c κs. tt) (λ c κs. tt) returns)
+    (tie.spec (λ c κs. tt) (λ c κs. tt) (λ c κs. tt) (λ c κs. tt) returns)

@@ -20,13 +20,13 @@ with-address status address = record { status = status; address = address }
 returns : tie.Need-returns
 returns c =
     let a = c .before .before .args in
-    let number = addressRefusal (a .line) (a .column) (a .mode) in
+    let number = addressRefusal (a .profile) (a .line) (a .column) (a .mode) in
     rw (c .before .address-refusal .ensures)
     (ap (with-address number) (sym (refused number _ 0 (λ e. c .if1 .taken (c .before .address-refusal .ensures ∙ e)))))
 
 -- past the refusal, line and column are within their limits
 accepted : (c : tie.Else1) → (c .before .before .args .line < lines) × (c .before .before .args .column < columns)
-accepted c = accepted-address _ _ (c .before .before .args .mode) (sym (c .before .address-refusal .ensures) ∙ c .if1 .left)
+accepted c = accepted-address (c .before .before .args .profile) _ _ (c .before .before .args .mode) (sym (c .before .address-refusal .ensures) ∙ c .if1 .left)
 
 new-requires : tie.Need-new-requires
 new-requires c κs = accepted c .0
@@ -37,22 +37,22 @@ screen-address-requires c κs = let known = accepted (c .before .before) in rw (
 -- the address is that of the line and the mode as they were given
 address : (k : tie.After-screen-address)
     → let a = k .before .before .before .before .before .args in
-    k .screen-address .result ≡ screenAddress (a .line) (a .column) (a .mode)
+    k .screen-address .result ≡ screenAddress (a .profile) (a .line) (a .column) (a .mode)
 address k =
     let a = k .before .before .before .before .before .args in
-    k .screen-address .ensures ∙ rw (k .before .before .new .ensures) (ap (screenAddress (a .line) (a .column)) (k .before .wide .ensures))
+    k .screen-address .ensures ∙ rw (k .before .before .new .ensures) (ap (screenAddress (a .profile) (a .line) (a .column)) (k .before .wide .ensures))
 
-cast-t9 : tie.Need-cast-t9
-cast-t9 c =
+cast-t10 : tie.Need-cast-t10
+cast-t10 c =
     let a = c .before .before .before .before .before .args in
     let known = accepted (c .before .before .before) in
-    omega (arith, screen-below (a .line) (a .column) (a .mode) (known .0) (known .1), address c)
+    omega (arith, screen-below (a .profile) (a .line) (a .column) (a .mode) (known .0) (known .1), address c)
 
 returns-2 : tie.Need-returns-2
 returns-2 c =
     let status = c .before .before .before .before .address-refusal in
     let a = c .before .before .before .before .before .args in
-    let number = addressRefusal (a .line) (a .column) (a .mode) in
+    let number = addressRefusal (a .profile) (a .line) (a .column) (a .mode) in
     rw (status .ensures, address c)
     (ap (with-address number) (sym (done number _ 0 (sym (status .ensures) ∙ c .before .before .before .if1 .left))))
 
@@ -65,5 +65,5 @@ screen-address-spec =
     new-requires
     (λ c κs. tt)
     screen-address-requires
-    cast-t9
+    cast-t10
     returns-2)

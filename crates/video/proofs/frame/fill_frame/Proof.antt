@@ -8,6 +8,7 @@ use denote.Ref.{now}
 use borrow.Rule.Slice.PartMut.{putMid}
 use Rattle.machine.specs.Sizes.{lines, lineLength}
 use Rattle.machine.proofs.Lists.{piece-size}
+use Rattle.video.specs.Ram.{ramOf}
 use Rattle.video.proofs.Frames.{characters-down, modes-small}
 use Rattle.video.proofs.frame.fill_frame.Proof.Progress.{Reached, none, next, all}
 use Rattle.video.specs.declared.registers.Registers.{Registers}
@@ -55,7 +56,7 @@ add-character : tie.Need-add-character Inv-loop μ-loop
 add-character c =
     let at = c .before .before .before .before .before .before .before .before in
     let a = at .before .before .before .before .before .args in
-    omega (arith, loop-again c .characters, characters-down (now (a .memory)) (a .state .counter) (a .state .mode) (at .loop .line + 1))
+    omega (arith, loop-again c .characters, characters-down (ramOf (now (a .memory)) (a .state)) (a .state .counter) (a .state .mode) (at .loop .line + 1))
 
 after-frame-requires : tie.Need-after-frame-requires Inv-loop μ-loop
 after-frame-requires c κs = c .before .before .before .before .before .before .pre .1 .1 .counter
@@ -65,9 +66,9 @@ answer-requires c κs =
     let here = c .before .before .loop in
     let start = c .before .before .before .before .before .before .before in
     let a = start .args in
-    let mode = modes-small (now (a .memory)) (a .state .mode) (start .pre .1 .1 .mode) (here .line) in (
+    let mode = modes-small (ramOf (now (a .memory)) (a .state)) (a .state .mode) (start .pre .1 .1 .mode) (here .line) in (
       rw (here .inv .path) mode,
-      omega (arith, here .inv .characters, characters-down (now (a .memory)) (a .state .counter) (a .state .mode) (here .line)),
+      omega (arith, here .inv .characters, characters-down (ramOf (now (a .memory)) (a .state)) (a .state .counter) (a .state .mode) (here .line)),
     )
 
 returns : tie.Need-returns Inv-loop μ-loop

@@ -10,10 +10,11 @@ use borrow.Author.Needs.{needs}
 use Rattle.machine.specs.Refusal.{given, lineCheck}
 use Rattle.machine.specs.Sizes.{columns, lineLength}
 use Rattle.machine.proofs.Refusals.{line-passed}
-use Rattle.video.specs.Answer.{lineRefusal, lineAnswer, lineContents}
+use Rattle.video.specs.Answer.{lineRefusal, cellsOfLine, lineAnswer, lineContents}
 use Rattle.video.specs.Cell.{Cell, pixels}
 use Rattle.video.specs.Internal.{paintedLine}
 use Rattle.video.specs.Line.{lineCells}
+use Rattle.video.specs.Ram.{Ram, ramOf}
 use Rattle.video.proofs.Accepted.{Paintable, accepted-painting}
 use Rattle.video.proofs.Answers.{painting-refused, painting-done}
 use Rattle.video.proofs.Lines.{cells-length, mode-after, mode-small, line-uses-screen-bytes}
@@ -24,7 +25,7 @@ use Rattle.video.proofs.line.paint_line.Tie as tie
 
 -- the line's cells, where it is painted
 abbrev cells : tie.Start → List Cell
-cells start = let a = start .args in lineCells (now (a .memory)) (a .state .counter) (a .line) (a .state .mode)
+cells start = let a = start .args in cellsOfLine (now (a .memory)) (a .state) (a .line)
 
 -- the status is the refusal of the whole list
 status : (k : tie.After-painting-refusal)
@@ -65,19 +66,22 @@ module _ (f : tie.After-fill-line) where
   abbrev entry : tie.Start
   entry = start (f .before .before .before .before)
 
+  abbrev ram : Ram
+  ram = ramOf (now (entry .args .memory)) (entry .args .state)
+
   carried : f .before .before .at-line-start .result .mode ≡ entry .args .state .mode
   carried = ap (λ (r : Registers). r .mode) (f .before .before .at-line-start .ensures) ∙ f .before .before .before .wide .ensures
 
-  painted-is : let a = entry .args in f .fill-line .result ≡ paintedLine (now (a .memory)) (a .state .counter) (a .line) (a .state .mode)
-  painted-is = let a = entry .args in f .fill-line .ensures .0 ∙ ap (paintedLine (now (a .memory)) (a .state .counter) (a .line)) carried
+  painted-is : let a = entry .args in f .fill-line .result ≡ paintedLine ram (a .state .counter) (a .line) (a .state .mode)
+  painted-is = let a = entry .args in f .fill-line .ensures .0 ∙ ap (paintedLine ram (a .state .counter) (a .line)) carried
 
 answer-requires : tie.Need-answer-requires
 answer-requires c κs =
     let f = c .before .before .before in
     let a = entry f .args in
-    let small = mode-small (now (a .memory)) (a .line) (a .state .mode) (paintable (f .before .before .before .before) .within .mode) columns in
+    let small = mode-small (ram f) (a .line) (a .state .mode) (paintable (f .before .before .before .before) .within .mode) columns in
     rw (painted-is f)
-    (small, (omega (arith, line-uses-screen-bytes (now (a .memory)) (a .state .counter) (a .line) (a .state .mode)), omega (arith, characters-most (cells (entry f)), cells-length (now (a .memory)) (a .state .counter) (a .line) (a .state .mode) columns)))
+    (small, (omega (arith, line-uses-screen-bytes (ram f) (a .state .counter) (a .line) (a .state .mode)), omega (arith, characters-most (cells (entry f)), cells-length (ram f) (a .state .counter) (a .line) (a .state .mode) columns)))
 
 returns-2 : tie.Need-returns-2
 unfolding lineAnswer lineContents
@@ -85,8 +89,8 @@ returns-2 c =
     let f = c .before .before .before .before in
     let a = entry f .args in
     let left = painting-done (lineRefusal (now (a .memory)) (a .state) (a .line) (now (a .output))) (a .state) (a .state) (cells (entry f)) (now (a .output)) (accepted (f .before .before .before .before)) in (
-      c .answer .ensures ∙ rw (painted-is f) (rw (← mode-after (now (a .memory)) (a .state .counter) (a .line) (a .state .mode) columns) (left .0)),
-      f .fill-line .ensures .1 ∙ ap (λ (m : ℕ). pixels (lineCells (now (a .memory)) (a .state .counter) (a .line) m)) (carried f) ∙ left .1,
+      c .answer .ensures ∙ rw (painted-is f) (rw (← mode-after (ram f) (a .state .counter) (a .line) (a .state .mode) columns) (left .0)),
+      f .fill-line .ensures .1 ∙ ap (λ (m : ℕ). pixels (lineCells (ram f) (a .state .counter) (a .line) m)) (carried f) ∙ left .1,
     )
 
 pub paint-line-spec : {M : Type 1} → statement M

@@ -16,6 +16,7 @@ use Rattle.video.specs.Cell.{Cell, pixels, characterAddresses}
 use Rattle.video.specs.Frame.{modeAfterLines, modeBefore, lineOf, firstLines, frameCells}
 use Rattle.video.specs.Internal.{answered, paintedLine}
 use Rattle.video.specs.Line.{lineCells}
+use Rattle.video.specs.Ram.{Ram, ramOf}
 use Rattle.video.specs.State.{afterFrame}
 use Rattle.video.proofs.Frames.{lines-next, mode-next, mode-down, frame-uses-screen-bytes}
 use Rattle.video.proofs.Lines.{line-pixels, line-uses-screen-bytes}
@@ -25,14 +26,17 @@ use Rattle.video.specs.declared.registers.Registers.{Registers}
 use Rattle.video.specs.declared.state.State.{State}
 
 module _ (image : Image) (state : State) where
+  abbrev ram : Ram
+  ram = ramOf image state
+
   abbrev first : ℕ → List Cell
-  first = firstLines image (state .counter) (state .mode)
+  first = firstLines ram (state .counter) (state .mode)
 
   pub record Reached (frame : List ℕ) (registers : Registers) (screen character line : ℕ) : Type 0 where
     pub within : line ≤ lines
     pub size : length frame ≡ frameLength
     pub filled : take (lineLength * line) frame ≡ pixels (first line)
-    pub path : registers .mode ≡ modeBefore image (state .mode) line
+    pub path : registers .mode ≡ modeBefore ram (state .mode) line
     pub screens : screen ≡ columns * line
     pub characters : character ≡ length (characterAddresses (first line))
 
@@ -43,24 +47,24 @@ module _ (image : Image) (state : State) where
 
   module _ (frame : List ℕ) (registers : Registers) (screen character line : ℕ) (here : Reached frame registers screen character line) where
     pub next : line < lines → (part : List ℕ) (answer : PaintedLine)
-        → part ≡ pixels (lineCells image (state .counter) line (registers .mode))
-        → answer ≡ paintedLine image (state .counter) line (registers .mode)
+        → part ≡ pixels (lineCells ram (state .counter) line (registers .mode))
+        → answer ≡ paintedLine ram (state .counter) line (registers .mode)
         → Reached (putMid (lineLength * line) (lineLength * line + lineLength - lineLength * line) frame part) (answer .registers) (screen + answer .screen)
         (character + answer .character) (line + 1)
     next more part answer p e =
-        let mode = modeBefore image (state .mode) line in
-        let cells = lineOf image (state .counter) (state .mode) line in
-        let pixels-are : part ≡ pixels cells = p ∙ ap (λ (m : ℕ). pixels (lineCells image (state .counter) line m)) (here .path) in
-        let is : answer ≡ paintedLine image (state .counter) line mode = e ∙ ap (paintedLine image (state .counter) line) (here .path) in
-        let size : length part ≡ lineLength = ap length pixels-are ∙ line-pixels image (state .counter) line mode in
+        let mode = modeBefore ram (state .mode) line in
+        let cells = lineOf ram (state .counter) (state .mode) line in
+        let pixels-are : part ≡ pixels cells = p ∙ ap (λ (m : ℕ). pixels (lineCells ram (state .counter) line m)) (here .path) in
+        let is : answer ≡ paintedLine ram (state .counter) line mode = e ∙ ap (paintedLine ram (state .counter) line) (here .path) in
+        let size : length part ≡ lineLength = ap length pixels-are ∙ line-pixels ram (state .counter) line mode in
         let fits : lineLength * line + lineLength ≤ length frame = omega arith in
-        let grown = lines-next image (state .counter) (state .mode) line in
+        let grown = lines-next ram (state .counter) (state .mode) line in
         record {
           within = omega arith;
           size = piece-length lineLength line frame fits part size ∙ here .size;
           filled = piece-done lineLength line frame fits part size ∙ ap₂ _++_ (here .filled) pixels-are ∙ sym (ap pixels grown ∙ pixels-append (first line) cells);
-          path = ap (λ (a : PaintedLine). a .registers .mode) is ∙ sym (mode-next image (state .mode) line);
-          screens = omega (arith, here .screens, ap (λ (a : PaintedLine). a .screen) is, line-uses-screen-bytes image (state .counter) line mode);
+          path = ap (λ (a : PaintedLine). a .registers .mode) is ∙ sym (mode-next ram (state .mode) line);
+          screens = omega (arith, here .screens, ap (λ (a : PaintedLine). a .screen) is, line-uses-screen-bytes ram (state .counter) line mode);
           characters =
               ap₂ (λ (n : ℕ) (a : PaintedLine). n + a .character) (here .characters) is
               ∙ sym (ap (λ (l : List Cell). length (characterAddresses l)) grown ∙ characters-append (first line) cells);
@@ -71,6 +75,6 @@ module _ (image : Image) (state : State) where
         × (frame ≡ pixels (frameCells image state))
     all end =
         let e : line ≡ lines = omega arith in (
-          rw (here .path, here .screens, here .characters, e, mode-down image (state .counter) (state .mode) lines, frame-uses-screen-bytes image state),
+          rw (here .path, here .screens, here .characters, e, mode-down ram (state .counter) (state .mode) lines, frame-uses-screen-bytes image state),
           sym (take-all (lineLength * line) frame (omega arith)) ∙ here .filled ∙ ap (λ (n : ℕ). pixels (first n)) e,
         )

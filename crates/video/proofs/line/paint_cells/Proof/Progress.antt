@@ -7,12 +7,12 @@ use native.Mathlib.Numerals.{add-one}
 use native.Mathlib.Omega.{arith}
 use lib.ListN.{length, take, set, length-set}
 use lib.Seq.{take-suc-set, take-all}
-use Rattle.machine.specs.Image.{Image}
 use Rattle.machine.specs.Lists.{gather}
 use Rattle.machine.specs.Sizes.{columns}
 use Rattle.video.specs.Cell.{Cell, cell, characterAddresses}
 use Rattle.video.specs.Internal.{paintedCell, paintedLine}
 use Rattle.video.specs.Line.{registersBefore, cellAt, firstCells, lineCells}
+use Rattle.video.specs.Ram.{Ram}
 use Rattle.video.specs.Registers.{lineReset}
 use Rattle.video.proofs.Lines.{cells-next, registers-next, line-uses-screen-bytes}
 use Rattle.video.proofs.Readings.{characters-one}
@@ -23,15 +23,15 @@ use Rattle.video.specs.declared.registers.Registers.{Registers}
 abbrev colours : List Cell → List (List ℕ)
 colours = map (λ (c : Cell). c .colours)
 
-module _ (image : Image) (counter line mode : ℕ) where
+module _ (ram : Ram) (counter line mode : ℕ) where
   abbrev first : ℕ → List Cell
-  first = firstCells image counter line mode
+  first = firstCells ram counter line mode
 
   pub record Reached (cells : List (List ℕ)) (registers : Registers) (screen character column : ℕ) : Type 0 where
     pub within : column ≤ columns
     pub size : length cells ≡ columns
     pub filled : take column cells ≡ colours (first column)
-    pub path : registers ≡ registersBefore image line mode column
+    pub path : registers ≡ registersBefore ram line mode column
     pub screens : screen ≡ column
     pub characters : character ≡ length (characterAddresses (first column))
 
@@ -41,13 +41,13 @@ module _ (image : Image) (counter line mode : ℕ) where
       record { within = omega arith; size = size; filled = refl; path = reset; screens = refl; characters = refl }
 
   module _ (cells : List (List ℕ)) (registers : Registers) (screen character column : ℕ) (here : Reached cells registers screen character column) where
-    pub next : column < columns → (answer : PaintedCell) → answer ≡ paintedCell (cell image counter line column registers)
+    pub next : column < columns → (answer : PaintedCell) → answer ≡ paintedCell (cell ram counter line column registers)
         → Reached (set cells column (answer .colours)) (answer .registers) (screen + 1) (character + answer .character) (column + 1)
     unfolding cellAt
     next more answer e =
-        let x = cellAt image counter line mode column in
-        let is : answer ≡ paintedCell x = e ∙ ap (λ (r : Registers). paintedCell (cell image counter line column r)) (here .path) in
-        let grown = cells-next image counter line mode column in
+        let x = cellAt ram counter line mode column in
+        let is : answer ≡ paintedCell x = e ∙ ap (λ (r : Registers). paintedCell (cell ram counter line column r)) (here .path) in
+        let grown = cells-next ram counter line mode column in
         record {
           within = omega arith;
           size = simp length-set (here .size);
@@ -55,7 +55,7 @@ module _ (image : Image) (counter line mode : ℕ) where
               rw (add-one column) (take-suc-set cells column (answer .colours) (omega arith))
               ∙ ap₂ (λ (l : List (List ℕ)) (a : PaintedCell). l ++ (a .colours ∷ [])) (here .filled) is
               ∙ simp (grown, map-append);
-          path = ap (λ (a : PaintedCell). a .registers) is ∙ sym (registers-next image counter line mode column);
+          path = ap (λ (a : PaintedCell). a .registers) is ∙ sym (registers-next ram counter line mode column);
           screens = ap (λ (n : ℕ). n + 1) (here .screens);
           characters =
               ap₂ (λ (n : ℕ) (a : PaintedCell). n + a .character) (here .characters) is
@@ -63,10 +63,10 @@ module _ (image : Image) (counter line mode : ℕ) where
         }
 
     pub all : columns ≤ column
-        → (_≡_ {A = PaintedLine} (record { registers = registers; screen = screen; character = character }) (paintedLine image counter line mode))
-        × (cells ≡ colours (lineCells image counter line mode))
+        → (_≡_ {A = PaintedLine} (record { registers = registers; screen = screen; character = character }) (paintedLine ram counter line mode))
+        × (cells ≡ colours (lineCells ram counter line mode))
     all end =
         let e : column ≡ columns = omega arith in (
-          rw (here .path, here .screens, here .characters, e, line-uses-screen-bytes image counter line mode),
+          rw (here .path, here .screens, here .characters, e, line-uses-screen-bytes ram counter line mode),
           sym (take-all column cells (omega arith)) ∙ here .filled ∙ ap (λ (n : ℕ). colours (first n)) e,
         )

@@ -1,0 +1,12 @@
+-- Laws of a choice between two values.
+-- Assumes nothing.
+use Prim.Native.Nat.{ℕ, _≤_}
+use mathlib.Core.Bool.{Bool, true, false, cond}
+
+-- what holds of both values holds of the chosen one
+pub cond-all : {A : Type 0} (P : A → Type 0) (b : Bool) (x y : A) → P x → P y → P (cond b x y)
+cond-all P true x y px py = px
+cond-all P false x y px py = py
+
+pub cond-most : (b : Bool) (x y : ℕ) {most : ℕ} → x ≤ most → y ≤ most → cond b x y ≤ most
+cond-most b x y {most} = cond-all (λ (n : ℕ). n ≤ most) b x y
