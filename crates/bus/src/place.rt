@@ -80,10 +80,8 @@ pub fn decode(profile: u8, latches: Latches, address: u16) -> Decoded
 fn decode_refusal(profile: u8, kind: u8) -> u8
     ensures { λ r. ⌜ r ≡ decodeRefusal profile kind ⌝ }
 {
-    profile_refusal(
-        profile,
-        kind_refusal(kind, controller_refusal(profile, kind, DONE)),
-    )
+    let wrong_controller = kind_refusal(kind, controller_refusal(profile, kind, DONE));
+    profile_refusal(profile, wrong_controller)
 }
 
 pub(crate) fn reach(profile: u8, latches: Latches, address: u16) -> Place

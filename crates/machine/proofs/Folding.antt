@@ -1,7 +1,7 @@
 -- Laws of folded addresses: none is larger than before, each is inside the image, and within one block folding keeps distances.
 -- Assumes nothing.
 use Prim.Native.Nat.{ℕ, _+_, _<_, _≤_, _/_}
-use mathlib.Core.Bool.{Bool, true, false, cond}
+use mathlib.Core.Bool.{Bool, true, false}
 use mathlib.Core.Path.{_≡_, refl}
 use native.Mathlib.Omega.{arith}
 use Rattle.machine.specs.Image.{is16K, blockLength, imageLength, folded}

@@ -3,7 +3,7 @@
 -- Assumes nothing.
 use Prim.Native.Nat.{ℕ, _+_, _*_, _<_, _≤_, _/_, _%_}
 use mathlib.Core.Bool.{Bool, true, false, cond, true≢false}
-use mathlib.Core.Option.{Option, none, some}
+use mathlib.Core.Option.{none, some}
 use mathlib.Core.Path.{_≡_, refl}
 use native.Mathlib.Omega.{arith}
 use lib.Dec.{ltb}
@@ -15,7 +15,7 @@ use Rattle.machine.proofs.Choice.{cond-all, cond-most}
 use Rattle.machine.proofs.Folding.{folded-most, folded-inside, folded-sum}
 use Rattle.video.specs.Address.{isHires, isBitmap, bitmapLines, textStart, hiresStart, screenAddress, characterSet, alternateOffset, characterRow, characterAddress}
 use Rattle.video.specs.Laws.{RegionsInOneBlock, RegionsFold}
-use Rattle.video.specs.Region.{Region, In, InOneBlock, foldedRegion, screenRegion, definitionRegion}
+use Rattle.video.specs.Region.{In, InOneBlock, foldedRegion, screenRegion, definitionRegion}
 
 -- the block from 8000 to BFFF, in which all used addresses of the table lie
 abbrev pub InBlock : ℕ → Type 0

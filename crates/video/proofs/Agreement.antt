@@ -1,30 +1,25 @@
 -- Two RAMs that hold the same bytes where a frame of the first is read paint the same cells, but for the addresses if their profiles
 -- differ. The registers' paths depend on screen bytes alone and come first; then each cell is the same, and so is the frame.
 -- Assumes nothing.
-use Prim.Native.Nat.{ℕ, zero, suc, _+_, _<_, _≤_, _%_}
+use Prim.Native.Nat.{ℕ, zero, suc, _<_, _≤_, _%_}
 use mathlib.Core.Bool.{Bool, true, false, cond, _||_}
-use mathlib.Core.List.{List, [], _∷_, _++_, map, map-id, flatMap, flatten, Option·toList}
-use mathlib.Core.Option.{Option, none, some, Option·map}
-use mathlib.Core.Path.{_≡_, refl, sym, ap, ap₂, _∙_}
+use mathlib.Core.List.{[], _∷_, map, map-id, Option·toList}
+use mathlib.Core.Option.{none, some}
+use mathlib.Core.Path.{_≡_, refl, sym, ap, _∙_}
 use native.Mathlib.Omega.{arith}
-use lib.ListN.{length, length-append, length-map}
-use Rattle.machine.specs.Image.{Image, blockLength, folded, byteAt}
+use Rattle.machine.specs.Image.{Image, byteAt}
 use Rattle.machine.specs.Lists.{Each}
 use Rattle.machine.specs.Sizes.{columns, lines}
 use Rattle.machine.proofs.Each.{each-head, each-tail, each-piece, each-mapped, each-joined}
 use Rattle.machine.proofs.Lists.{gather-mapped}
 use Rattle.video.specs.Address.{isBitmap, screenAddress, characterAddress}
-use Rattle.video.specs.Answer.{painted}
-use Rattle.video.specs.Cell.{Cell, cell, screenByte, registersAfter, characterUsed, coloursOf, pattern, pixels, screenAddresses, characterAddresses, used, modeLeft}
+use Rattle.video.specs.Cell.{Cell, cell, screenByte, registersAfter, characterUsed, coloursOf, pattern, screenAddresses, used}
 use Rattle.video.specs.Frame.{modeAfterLines, modeBefore, lineOf, firstLines, frameCells}
-use Rattle.video.specs.Laws.{Agree, PathByScreenBytes, FrameByUsedBytes, foldedCell, StandsAt8000, FrameFolds, FoldedFrameShowsSame}
+use Rattle.video.specs.Laws.{Agree, PathByScreenBytes, FrameByUsedBytes}
 use Rattle.video.specs.Line.{registersBefore, cellAt, firstCells, lineCells, modeAfterLine}
 use Rattle.video.specs.Ram.{Ram, ramOf}
 use Rattle.video.specs.Registers.{isAttribute}
-use Rattle.video.specs.State.{withProfile}
-use Rattle.video.proofs.Addresses.{InBlock, screen-in-block, characters-in-block}
 use Rattle.video.proofs.Frames.{mode-suc}
-use Rattle.video.proofs.Readings.{screens-length}
 use Rattle.video.specs.declared.registers.Registers.{Registers}
 use Rattle.video.specs.declared.state.State.{State}
 

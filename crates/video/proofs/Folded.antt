@@ -18,10 +18,9 @@ use Rattle.video.specs.Ram.{ramOf}
 use Rattle.video.specs.Registers.{isAttribute}
 use Rattle.video.specs.State.{withProfile}
 use Rattle.video.proofs.Addresses.{InBlock, screen-in-block, characters-in-block}
-use Rattle.video.proofs.Agreement.{SameBytes, cell-read, frame-changed}
+use Rattle.video.proofs.Agreement.{cell-read, frame-changed}
 use Rattle.video.proofs.Readings.{screens-length}
 use Rattle.video.specs.declared.registers.Registers.{Registers}
-use Rattle.video.specs.declared.state.State.{State}
 
 -- a byte of the block, at its address and at the folded one
 at-folded : (small large : Image) → StandsAt8000 small large → (address : ℕ) → InBlock address → byteAt large address ≡ byteAt small (folded 1 address)

@@ -137,11 +137,8 @@ impl Scanline {
     {
         let number = self.number;
         let code = (byte % 128) as usize;
-        let set = choose_address(
-            is_hires(registers.mode),
-            self.hires.characters,
-            self.text.characters,
-        );
+        let hires = is_hires(registers.mode);
+        let set = choose_address(hires, self.hires.characters, self.text.characters);
         let alternate = choose_address(bit(ALTERNATE, registers.style), ALTERNATE_CHARACTERS, 0);
         let double = bit(DOUBLE_HEIGHT, registers.style);
         let row = choose_address(double, number / 2 % ROW_LINES, number % ROW_LINES);

@@ -1,8 +1,8 @@
 -- `video::address::Scanline::screen_address` meets its contract: the line's own starts are chosen from, and the address is below C000.
 -- Assumes nothing.
 use Prim.Native.Nat.{ℕ, _+_, _<_}
-use mathlib.Core.Bool.{Bool, true, false, cond}
-use mathlib.Core.Path.{_≡_, refl, ap, _∙_}
+use mathlib.Core.Bool.{cond}
+use mathlib.Core.Path.{_≡_, ap, _∙_}
 use native.Mathlib.Omega.{arith}
 use Rattle.machine.specs.Image.{folded}
 use Rattle.video.specs.Address.{isHires, textStart, hiresStart, screenAddress}
