@@ -1,18 +1,22 @@
 -- A list of accesses leaves a memory of the same length, changed at most at the addresses where the decode rules say that it stores:
 -- one induction over the list. The rules' latches and those of the contracts' definitions go together, since the length is kept.
 -- Assumes nothing.
-use Prim.Native.Nat.{ℕ, zero, suc}
-use mathlib.Core.Path.{_≡_, refl, _∙_}
+use Prim.Native.Nat.{ℕ, zero, suc, _≤_}
+use mathlib.Core.Path.{_≡_, refl, sym, _∙_}
 use mathlib.Core.Bool.{Bool, true, false, cond}
 use mathlib.Core.List.{List, [], _∷_}
 use lib.ListN.{length, length-set}
 use lib.Seq.{getD-set-other}
-use Rattle.machine.specs.Image.{Image, byteAt, withByte}
+use Rattle.machine.specs.Image.{Image, IsImage, byteAt, withByte}
 use Rattle.machine.specs.Lists.{Each}
 use Rattle.machine.specs.Refusal.{ifDone}
+use Rattle.machine.specs.Sizes.{lastProfile}
 use Rattle.machine.proofs.Each.{each-head, each-left, each-right}
+use Rattle.machine.proofs.Folding.{one-length}
+use Rattle.machine.proofs.Refusals.{refused, profile-passed, memory-passed}
 use Rattle.bus.specs.Accesses.{Action, read, write, writeInPlace, Step, Board, taken, boardAfterWrite, boardAfterAction, boardAfter, writeStores, actionStores, latchesAfterWrite, latchesAfterAction, stores}
 use Rattle.bus.specs.Cycle.{isMemory, accessRefusal, writeContents, writeLatches}
+use Rattle.bus.specs.Laws.{OtherProfileStoresNowhere}
 use Rattle.bus.specs.Place.{place}
 use Rattle.bus.specs.declared.latch.Latches.{Latches}
 
@@ -87,3 +91,14 @@ steps-sized steps image latches = steps-changed steps image latches .sized
 pub steps-keep : (steps : List Step) (image : Image) (latches : Latches) (address : ℕ) → NoneOf address (stores (length image) latches steps)
     → byteAt (boardAfter (record { memory = image; latches = latches }) steps .memory) address ≡ byteAt image address
 steps-keep steps image latches address none = steps-changed steps image latches .kept address none
+
+-- it is refused by 12 or, for its length, by 1
+other-profile : (memory : Image) (profile other kind : ℕ) → profile ≤ lastProfile → IsImage profile memory → (other ≡ profile → ⊥)
+    → accessRefusal other (length memory) kind ≡ 0 → ⊥
+other-profile memory profile other kind within size differs done =
+    let passed = profile-passed _ other done in
+    differs (one-length other profile (passed .holds) within (sym (memory-passed _ other (length memory) (passed .rest) .holds) ∙ size))
+
+pub other-profile-stores-nowhere : OtherProfileStoresNowhere
+other-profile-stores-nowhere memory profile other within size differs latches address =
+    refused _ _ [] (other-profile memory profile other (latches .kind) within size differs)

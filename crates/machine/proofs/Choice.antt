@@ -10,3 +10,8 @@ cond-all P false x y px py = py
 
 pub cond-most : (b : Bool) (x y : ℕ) {most : ℕ} → x ≤ most → y ≤ most → cond b x y ≤ most
 cond-most b x y {most} = cond-all (λ (n : ℕ). n ≤ most) b x y
+
+-- of two choices by one test, what holds in each case
+pub cond-both : {A B : Type 0} (R : A → B → Type 0) (b : Bool) (x y : A) (z w : B) → R x z → R y w → R (cond b x y) (cond b z w)
+cond-both R true x y z w xz yw = xz
+cond-both R false x y z w xz yw = yw

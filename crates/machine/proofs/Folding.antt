@@ -1,32 +1,36 @@
 -- Laws of folded addresses: none is larger than before, each is inside the image, and within one block folding keeps distances.
+-- Two profiles whose images have one length are one profile.
 -- Assumes nothing.
-use Prim.Native.Nat.{ℕ, _+_, _<_, _≤_, _/_}
+use Prim.Native.Nat.{ℕ, _+_, _%_, _<_, _≤_, _/_}
 use mathlib.Core.Bool.{Bool, true, false}
-use mathlib.Core.Path.{_≡_, refl}
+use mathlib.Core.Path.{_≡_, refl, sym, _∙_}
 use native.Mathlib.Omega.{arith}
+use borrow.Author.Tests.{eqb-true, eqb-false}
 use Rattle.machine.specs.Image.{is16K, blockLength, imageLength, folded}
+use Rattle.machine.specs.Sizes.{lastProfile}
+use Rattle.machine.proofs.Choice.{cond-most, cond-both}
 
 module _ (profile : ℕ) where
   pub folded-most : (address : ℕ) → folded profile address ≤ address
-  folded-most address = go (is16K profile) refl
-    where
-      go : (small : Bool) → is16K profile ≡ small → folded profile address ≤ address
-      go true e = simp e (omega arith)
-      go false e = simp e (omega arith)
+  folded-most address = cond-most (is16K profile) (address % blockLength) address (omega arith) (omega arith)
 
   -- an address of 16 bits reaches a byte of the image
   pub folded-inside : (address : ℕ) → address < 65536 → folded profile address < imageLength profile
-  folded-inside address h = go (is16K profile) refl
-    where
-      go : (small : Bool) → is16K profile ≡ small → folded profile address < imageLength profile
-      go true e = simp e (omega arith)
-      go false e = simp e (omega arith)
+  folded-inside address fits =
+      cond-both (λ (n size : ℕ). n < size) (is16K profile) (address % blockLength) address blockLength 65536 (omega arith) fits
 
   -- an address and one behind it in the same block
   pub folded-sum : (address offset : ℕ) → address / blockLength ≡ (address + offset) / blockLength
       → folded profile (address + offset) ≡ folded profile address + offset
-  folded-sum address offset same = go (is16K profile) refl
-    where
-      go : (small : Bool) → is16K profile ≡ small → folded profile (address + offset) ≡ folded profile address + offset
-      go true e = simp e (omega arith)
-      go false e = simp e
+  folded-sum address offset same =
+      cond-both (λ (sum n : ℕ). sum ≡ n + offset) (is16K profile) ((address + offset) % blockLength) (address + offset) (address % blockLength) address
+      (omega arith) refl
+
+pub one-length : (first second : ℕ) → first ≤ lastProfile → second ≤ lastProfile → imageLength first ≡ imageLength second → first ≡ second
+one-length first second f s same = go (is16K first) (is16K second) refl refl
+  where
+    go : (small too : Bool) → is16K first ≡ small → is16K second ≡ too → first ≡ second
+    go true true e e′ = eqb-true first 1 e ∙ sym (eqb-true second 1 e′)
+    go true false e e′ = absurd (omega (arith, simp (e, e′) at same))
+    go false true e e′ = absurd (omega (arith, simp (e, e′) at same))
+    go false false e e′ = omega (arith, eqb-false first 1 e, eqb-false second 1 e′)

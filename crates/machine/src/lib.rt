@@ -1,7 +1,9 @@
 // What every crate shares: the profiles and their memory images, the sizes of a frame, the refusals' numbers and limits.
+mod choose;
 mod image;
 mod refusal;
 
+pub use choose::choose_address;
 pub use image::fold;
 pub use image::image_length;
 pub use refusal::column_refusal;

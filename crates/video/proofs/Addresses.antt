@@ -13,7 +13,7 @@ use Rattle.machine.specs.Image.{is16K, blockLength, imageLength, folded}
 use Rattle.machine.specs.Sizes.{columns, lines}
 use Rattle.machine.proofs.Choice.{cond-all, cond-most}
 use Rattle.machine.proofs.Folding.{folded-most, folded-inside, folded-sum}
-use Rattle.video.specs.Address.{isHires, isBitmap, bitmapLines, textStart, hiresStart, screenAddress, characterSet, alternateOffset, characterRow, characterAddress}
+use Rattle.video.specs.Address.{isHires, isBitmap, bitmapLines, textStart, hiresStart, screenAddress, textCharacters, hiresCharacters, characterSet, alternateOffset, characterRow, characterAddress}
 use Rattle.video.specs.Laws.{RegionsInOneBlock, RegionsFold}
 use Rattle.video.specs.Region.{In, InOneBlock, foldedRegion, screenRegion, definitionRegion}
 
@@ -66,7 +66,7 @@ module _ (profile line column mode : ℕ) (hl : line < lines) (hc : column < col
   pub screen-inside : screenAddress profile line column mode < imageLength profile
   screen-inside = folded-inside profile (screenAddress 0 line column mode) (omega (arith, screen-in-block))
 
--- the start of a line is folded, or the address of each of its cells
+-- to fold the start of a line is to fold the address of each of its cells
 pub start-folded : (profile line column mode : ℕ) → line < lines → column < columns
     → folded profile (cond (isHires mode) (hiresStart line) (textStart line)) + column ≡ screenAddress profile line column mode
 start-folded profile line column mode hl hc =
@@ -74,6 +74,11 @@ start-folded profile line column mode hl hc =
     let first : InBlock start = omega (arith, screen-in-block profile line 0 mode hl (omega arith)) in
     let last : InBlock (start + column) = screen-in-block profile line column mode hl hc in
     rw (folded-sum profile start column (omega arith))
+
+-- both sets lie in the block
+pub set-in : (mode : ℕ) → (hiresCharacters ≤ characterSet mode) × (characterSet mode ≤ textCharacters)
+set-in mode =
+    cond-all (λ (n : ℕ). (hiresCharacters ≤ n) × (n ≤ textCharacters)) (isHires mode) hiresCharacters textCharacters (omega arith) (omega arith)
 
 module _ (profile line mode style code : ℕ) (hc : code < 128) where
   row-most : characterRow line style ≤ 7
@@ -84,10 +89,7 @@ module _ (profile line mode style code : ℕ) (hc : code < 128) where
 
   -- any character byte of a set
   pub characters-in-block : InBlock (characterAddress 0 line mode style code)
-  characters-in-block =
-      let set : (0x8000 ≤ characterSet mode) × (characterSet mode ≤ 0xB400) =
-      cond-all (λ (n : ℕ). (0x8000 ≤ n) × (n ≤ 0xB400)) (isHires mode) 0x9800 0xB400 (omega arith) (omega arith) in
-      omega (arith, row-most, offset-most)
+  characters-in-block = omega (arith, set-in mode, row-most, offset-most)
 
   pub characters-below : characterAddress profile line mode style code < 0xC000
   characters-below = omega (arith, folded-most profile (characterAddress 0 line mode style code), characters-in-block)
@@ -95,14 +97,12 @@ module _ (profile line mode style code : ℕ) (hc : code < 128) where
   pub characters-inside : characterAddress profile line mode style code < imageLength profile
   characters-inside = folded-inside profile (characterAddress 0 line mode style code) (omega (arith, characters-in-block))
 
-  -- the set is folded, or the address of each of its bytes
+  -- to fold the set is to fold the address of each of its bytes
   pub set-folded : folded profile (characterSet mode) + alternateOffset style + 8 * code + characterRow line style
       ≡ characterAddress profile line mode style code
   set-folded =
-      let set : (0x8000 ≤ characterSet mode) × (characterSet mode ≤ 0xB400) =
-      cond-all (λ (n : ℕ). (0x8000 ≤ n) × (n ≤ 0xB400)) (isHires mode) 0x9800 0xB400 (omega arith) (omega arith) in
       let offset = alternateOffset style + 8 * code + characterRow line style in
-      let sum = folded-sum profile (characterSet mode) offset (omega (arith, row-most, offset-most)) in
+      let sum = folded-sum profile (characterSet mode) offset (omega (arith, set-in mode, row-most, offset-most)) in
       let shape : characterSet mode + alternateOffset style + 8 * code + characterRow line style ≡ characterSet mode + offset = omega arith in
       rw (shape, sum) (omega arith)
 

@@ -1,7 +1,7 @@
 // Tests and choices without a jump: both values are made before one is chosen.
 ghost use mathlib.Core.Path.{_≡_};
 ghost use mathlib.Core.Bool.{cond, _&&_};
-ghost use Prim.Native.Nat.{_<_, _≤_, max};
+ghost use Prim.Native.Nat.{_<_};
 ghost use Rattle.machine.specs.Bits.{bit as Bits·bit};
 
 pub(crate) fn wide(byte: u8) -> u64
@@ -26,14 +26,6 @@ pub(crate) fn both(first: bool, second: bool) -> bool
 
 pub(crate) fn choose(test: bool, yes: u64, no: u64) -> u64
     ensures { λ r. ⌜ r ≡ cond test yes no ⌝ }
-{
-    if test { yes } else { no }
-}
-
-// The second clause follows from the first; sums of addresses are bounded by it.
-pub(crate) fn choose_address(test: bool, yes: usize, no: usize) -> usize
-    ensures { λ r. ⌜ r ≡ cond test yes no ⌝ }
-    ensures { λ r. ⌜ r ≤ max yes no ⌝ }
 {
     if test { yes } else { no }
 }

@@ -7,9 +7,9 @@ ghost use Rattle.video.specs.Cell.{cell};
 ghost use Rattle.video.specs.Internal.{scanline, ramBy, paintedCell};
 use crate::address::Scanline;
 use crate::bits::choose;
-use crate::bits::choose_address;
 use crate::registers::Registers;
 use crate::registers::is_attribute;
+use machine::choose_address;
 
 // The registers that a cell leaves, its colours, and how many character bytes it used, 0 or 1.
 pub(crate) struct PaintedCell {

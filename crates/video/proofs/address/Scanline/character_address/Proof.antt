@@ -6,10 +6,9 @@ use mathlib.Core.Path.{_≡_, ap, _∙_}
 use native.Mathlib.Omega.{arith}
 use borrow.Author.Needs.{needs}
 use Rattle.machine.specs.Image.{folded}
-use Rattle.machine.proofs.Choice.{cond-most}
 use Rattle.machine.proofs.Folding.{folded-most}
 use Rattle.video.specs.Address.{isHires, textCharacters, hiresCharacters, characterSet}
-use Rattle.video.proofs.Addresses.{set-folded}
+use Rattle.video.proofs.Addresses.{set-in, set-folded}
 use Rattle.video.proofs.Choice.{cond-map}
 use Rattle.video.specs.declared.address.Scanline.{Scanline}
 use Rattle.video.proofs.address.Scanline.character_address.Statement.{statement}
@@ -27,12 +26,7 @@ set c =
 set-most : (c : tie.After-choose-address) → c .choose-address .result ≤ textCharacters
 set-most c =
     let a = c .before .before .args in
-    omega (
-      arith,
-      set c,
-      folded-most (a .self .profile) (characterSet (a .registers .mode)),
-      cond-most (isHires (a .registers .mode)) hiresCharacters textCharacters {most = textCharacters} (omega arith) (omega arith),
-    )
+    omega (arith, set c, folded-most (a .self .profile) (characterSet (a .registers .mode)), set-in (a .registers .mode))
 
 returns : tie.Need-returns
 returns c =
