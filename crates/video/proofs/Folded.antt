@@ -3,14 +3,14 @@
 -- Assumes nothing.
 use Prim.Native.Nat.{ℕ, _+_, _%_}
 use mathlib.Core.Bool.{Bool, true, false, cond, _||_}
-use mathlib.Core.List.{List, [], _∷_, _++_, map, flatMap, flatten, Option·toList}
+use mathlib.Core.List.{List, [], _∷_, _++_, map, map-append, flatMap, flatten, Option·toList}
 use mathlib.Core.Option.{Option, none, some, Option·map}
 use mathlib.Core.Path.{_≡_, refl, sym, ap, ap₂, _∙_}
 use native.Mathlib.Omega.{arith}
 use lib.ListN.{length, length-append, length-map}
 use Rattle.machine.specs.Image.{Image, blockLength, folded, byteAt}
 use Rattle.video.specs.Address.{isBitmap, characterAddress}
-use Rattle.video.specs.Cell.{Cell, cell, screenByte, characterUsed, pixels, screenAddresses, characterAddresses, modeLeft}
+use Rattle.video.specs.Cell.{Cell, cell, screenByte, characterUsed, pixels, screenAddresses, characterAddresses, used, modeLeft}
 use Rattle.video.specs.Frame.{modeBefore, frameCells}
 use Rattle.video.specs.Laws.{foldedCell, StandsAt8000, FrameFolds, FoldedFrameShowsSame}
 use Rattle.video.specs.Line.{registersBefore}
@@ -66,6 +66,18 @@ module _ (profile : ℕ) where
   pixels-folded [] = refl
   pixels-folded (c ∷ cells) = ap (λ (l : List ℕ). c .colours ++ l) (pixels-folded cells)
 
+  one-folded : (character : Option ℕ) → Option·toList (Option·map (folded profile) character) ≡ map (folded profile) (Option·toList character)
+  unfolding Option·toList
+  one-folded none = refl
+  one-folded (some address) = refl
+
+  used-folded : (cells : List Cell) → used (foldedCells cells) ≡ map (folded profile) (used cells)
+  unfolding used flatMap
+  used-folded [] = refl
+  used-folded (c ∷ cells) =
+      ap (λ (l : List ℕ). folded profile (c .screen) ∷ l)
+      (ap₂ _++_ (one-folded (c .character)) (used-folded cells) ∙ sym (map-append (folded profile) (Option·toList (c .character)) (used cells)))
+
   mode-folded : (mode : ℕ) (cells : List Cell) → modeLeft mode (foldedCells cells) ≡ modeLeft mode cells
   unfolding modeLeft
   mode-folded mode [] = refl
@@ -74,18 +86,15 @@ module _ (profile : ℕ) where
   screens-folded : (cells : List Cell) → length (screenAddresses (foldedCells cells)) ≡ length (screenAddresses cells)
   screens-folded cells = screens-length (foldedCells cells) ∙ length-map cells (foldedCell profile) ∙ sym (screens-length cells)
 
-  one-folded : (character : Option ℕ) → length (Option·toList (Option·map (folded profile) character)) ≡ length (Option·toList character)
-  unfolding Option·toList
-  one-folded none = refl
-  one-folded (some address) = refl
-
   characters-folded : (cells : List Cell) → length (characterAddresses (foldedCells cells)) ≡ length (characterAddresses cells)
   unfolding characterAddresses flatMap
   characters-folded [] = refl
-  characters-folded (c ∷ cells) = simp length-append (ap₂ _+_ (one-folded (c .character)) (characters-folded cells))
+  characters-folded (c ∷ cells) =
+      simp length-append
+      (ap₂ _+_ (ap length (one-folded (c .character)) ∙ length-map (Option·toList (c .character)) (folded profile)) (characters-folded cells))
 
 pub folded-frame-shows-same : FoldedFrameShowsSame
 folded-frame-shows-same small large state stands =
     let plain = frameCells large (withProfile 0 state) in
     rw (frame-folds small large state stands)
-    (pixels-folded 1 plain, rw (mode-folded 1 (state .mode) plain, screens-folded 1 plain, characters-folded 1 plain))
+    (pixels-folded 1 plain, used-folded 1 plain, rw (mode-folded 1 (state .mode) plain, screens-folded 1 plain, characters-folded 1 plain))

@@ -138,10 +138,10 @@ FrameFolds =
     (small large : Image) (state : State) → StandsAt8000 small large
     → frameCells small (withProfile 1 state) ≡ map (foldedCell 1) (frameCells large (withProfile 0 state))
 
--- so they show the same pixels, use as many bytes and leave the same mode
+-- so they show the same pixels, use as many bytes, at folded addresses, and leave the same mode
 abbrev pub FoldedFrameShowsSame : Type 0
 FoldedFrameShowsSame =
     (small large : Image) (state : State) → StandsAt8000 small large
     → let folding = frameCells small (withProfile 1 state) in
     let plain = frameCells large (withProfile 0 state) in
-    (pixels folding ≡ pixels plain) × (painted state folding ≡ painted state plain)
+    (pixels folding ≡ pixels plain) × (used folding ≡ map (folded 1) (used plain)) × (painted state folding ≡ painted state plain)
