@@ -1,7 +1,7 @@
 -- Every address that a cell uses lies in its region, inside the image: by the cases of the table, lines 0 to 199 or below them, text or
 -- hires, and then folded, since no region crosses a border of 16K.
 -- Assumes nothing.
-use Prim.Native.Nat.{ℕ, _+_, _*_, _<_, _≤_, _/_, _%_}
+use Prim.Native.Nat.{ℕ, _+_, _-_, _*_, _<_, _≤_, _/_, _%_}
 use mathlib.Core.Bool.{Bool, true, false, cond, true≢false}
 use mathlib.Core.Option.{none, some}
 use mathlib.Core.Path.{_≡_, refl}
@@ -11,15 +11,21 @@ use borrow.Author.Tests.{ltb-true, ltb-false}
 use Rattle.machine.specs.Bits.{bit}
 use Rattle.machine.specs.Image.{is16K, blockLength, imageLength, folded}
 use Rattle.machine.specs.Sizes.{columns, lines}
-use Rattle.machine.proofs.Choice.{cond-all, cond-most}
-use Rattle.machine.proofs.Folding.{folded-most, folded-inside, folded-sum}
-use Rattle.video.specs.Address.{isHires, isBitmap, bitmapLines, textStart, hiresStart, screenAddress, textCharacters, hiresCharacters, characterSet, alternateOffset, characterRow, characterAddress}
+use Rattle.machine.proofs.Choice.{cond-all, cond-most, cond-both}
+use Rattle.machine.proofs.Folding.{folded-most, folded-inside}
+use Rattle.video.specs.Address.{videoBlock, isHires, isBitmap, bitmapLines, textStart, hiresStart, screenAddress, textCharacters, hiresCharacters, characterSet, alternateOffset, characterRow, characterAddress}
 use Rattle.video.specs.Laws.{RegionsInOneBlock, RegionsFold}
 use Rattle.video.specs.Region.{In, InOneBlock, foldedRegion, screenRegion, definitionRegion}
 
 -- the block from 8000 to BFFF, in which all used addresses of the table lie
 abbrev pub InBlock : ℕ → Type 0
-InBlock address = (0x8000 ≤ address) × (address < 0xC000)
+InBlock address = (videoBlock ≤ address) × (address < 0xC000)
+
+-- folding moves the block as a whole: an address is as far from its start as before
+pub block-moved : (profile address : ℕ) → InBlock address → folded profile address ≡ folded profile videoBlock + folded 1 address
+block-moved profile address h =
+    cond-both (λ (n base : ℕ). n ≡ base + address % blockLength) (is16K profile) (address % blockLength) address (videoBlock % blockLength) videoBlock
+    (omega arith) (omega arith)
 
 pub regions-in-one-block : RegionsInOneBlock
 regions-in-one-block line mode = go (ltb line bitmapLines) (isHires mode) refl refl
@@ -66,14 +72,11 @@ module _ (profile line column mode : ℕ) (hl : line < lines) (hc : column < col
   pub screen-inside : screenAddress profile line column mode < imageLength profile
   screen-inside = folded-inside profile (screenAddress 0 line column mode) (omega (arith, screen-in-block))
 
--- to fold the start of a line is to fold the address of each of its cells
-pub start-folded : (profile line column mode : ℕ) → line < lines → column < columns
-    → folded profile (cond (isHires mode) (hiresStart line) (textStart line)) + column ≡ screenAddress profile line column mode
-start-folded profile line column mode hl hc =
-    let start = cond (isHires mode) (hiresStart line) (textStart line) in
-    let first : InBlock start = omega (arith, screen-in-block profile line 0 mode hl (omega arith)) in
-    let last : InBlock (start + column) = screen-in-block profile line column mode hl hc in
-    rw (folded-sum profile start column (omega arith))
+-- a screen byte, counted from the start of the block
+pub screen-moved : (line column mode : ℕ) → line < lines → column < columns
+    → cond (isHires mode) (hiresStart line) (textStart line) - videoBlock + column ≡ screenAddress 1 line column mode
+screen-moved line column mode hl hc =
+    omega (arith, screen-in-block 0 line 0 mode hl (omega arith), screen-in-block 0 line column mode hl hc)
 
 -- both sets lie in the block
 pub set-in : (mode : ℕ) → (hiresCharacters ≤ characterSet mode) × (characterSet mode ≤ textCharacters)
@@ -91,20 +94,15 @@ module _ (profile line mode style code : ℕ) (hc : code < 128) where
   pub characters-in-block : InBlock (characterAddress 0 line mode style code)
   characters-in-block = omega (arith, set-in mode, row-most, offset-most)
 
+  -- counted from the start of the block
+  pub character-moved : characterSet mode - videoBlock + alternateOffset style + 8 * code + characterRow line style ≡ characterAddress 1 line mode style code
+  character-moved = omega (arith, set-in mode, row-most, offset-most)
+
   pub characters-below : characterAddress profile line mode style code < 0xC000
   characters-below = omega (arith, folded-most profile (characterAddress 0 line mode style code), characters-in-block)
 
   pub characters-inside : characterAddress profile line mode style code < imageLength profile
   characters-inside = folded-inside profile (characterAddress 0 line mode style code) (omega (arith, characters-in-block))
-
-  -- to fold the set is to fold the address of each of its bytes
-  pub set-folded : folded profile (characterSet mode) + alternateOffset style + 8 * code + characterRow line style
-      ≡ characterAddress profile line mode style code
-  set-folded =
-      let offset = alternateOffset style + 8 * code + characterRow line style in
-      let sum = folded-sum profile (characterSet mode) offset (omega (arith, set-in mode, row-most, offset-most)) in
-      let shape : characterSet mode + alternateOffset style + 8 * code + characterRow line style ≡ characterSet mode + offset = omega arith in
-      rw (shape, sum) (omega arith)
 
   definition-case : (upper hires : Bool) → ltb line bitmapLines ≡ upper → isHires mode ≡ hires → isBitmap line mode ≡ false
       → In (definitionRegion line mode) (characterAddress 0 line mode style code)

@@ -101,21 +101,27 @@ module _ (first second : Ram) where
       rw (← same .screen)
       (rw (colours-same counter line before (screenByte first line column (before .mode)) (same .character)))
 
-  -- the cells of a frame, each changed in the same way
-  module _ (change : Cell → Cell) (counter mode : ℕ)
-      (same : (line column : ℕ) → line < lines → column < columns → SameBytes line column (registersBefore first line (modeBefore first mode line) column))
+  -- the cells of a line and of a frame, each changed in the same way
+  module _ (change : Cell → Cell) (counter : ℕ)
       (changed : (line column : ℕ) (before : Registers) → SameBytes line column before
       → cell second counter line column before ≡ change (cell first counter line column before)) where
-    pub frame-changed : firstLines second counter mode lines ≡ map change (firstLines first counter mode lines)
-    unfolding firstLines firstCells cellAt
-    frame-changed =
-        gather-mapped change (lineOf first counter mode) (lineOf second counter mode) lines (λ line hl.
-        let path = path-lines mode (λ line column hl hc. same line column hl hc .screen) line (omega arith) in
-        ap (lineCells second counter line) path
-        ∙ gather-mapped change _ _ columns (λ column hc.
-        let before = path-line line (modeBefore first mode line) column (λ k hk. same line k hl (omega arith) .screen) in
+    pub line-changed : (line mode : ℕ) → ((column : ℕ) → column < columns → SameBytes line column (registersBefore first line mode column))
+        → lineCells second counter line mode ≡ map change (lineCells first counter line mode)
+    unfolding firstCells cellAt
+    line-changed line mode same =
+        gather-mapped change _ _ columns (λ column hc.
+        let before = path-line line mode column (λ k hk. same k (omega arith) .screen) in
         ap (λ (r : Registers). cell second counter line column r ∷ []) before
-        ∙ ap (λ (c : Cell). c ∷ []) (changed line column _ (same line column hl hc))))
+        ∙ ap (λ (c : Cell). c ∷ []) (changed line column _ (same column hc)))
+
+    pub frame-changed : (mode : ℕ)
+        → ((line column : ℕ) → line < lines → column < columns → SameBytes line column (registersBefore first line (modeBefore first mode line) column))
+        → firstLines second counter mode lines ≡ map change (firstLines first counter mode lines)
+    unfolding firstLines
+    frame-changed mode same =
+        gather-mapped change (lineOf first counter mode) (lineOf second counter mode) lines (λ line hl.
+        ap (lineCells second counter line) (path-lines mode (λ line column hl hc. same line column hl hc .screen) line (omega arith))
+        ∙ line-changed line (modeBefore first mode line) (λ column hc. same line column hl hc))
 
 -- two images of one profile
 module _ (first second : Image) (state : State) where
@@ -140,10 +146,11 @@ unfolding used cellAt cell screenByte
 frame-by-used-bytes first second state agree =
     let Alike : Cell → Type 0 = λ (c : Cell). Agree first second (c .screen ∷ Option·toList (c .character)) in
     let alike = cell-in Alike first state (each-joined (Same first second state) _ (frameCells first state) agree) in
-    frame-changed (ramOf first state) (ramOf second state) (λ (c : Cell). c) (state .counter) (state .mode)
+    frame-changed (ramOf first state) (ramOf second state) (λ (c : Cell). c) (state .counter)
+    (λ line column before same. cell-read (ramOf first state) (ramOf second state) (state .counter) line column before same)
+    (state .mode)
     (λ line column hl hc. record {
       screen = each-head (Same first second state) _ _ (alike line column hl hc);
       character = character-same first second state line _ _ (each-tail (Same first second state) _ _ (alike line column hl hc));
     })
-    (λ line column before same. cell-read (ramOf first state) (ramOf second state) (state .counter) line column before same)
     ∙ map-id (frameCells first state)

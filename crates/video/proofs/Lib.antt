@@ -2,6 +2,7 @@ pub mod Accepted
 pub mod Agreement
 pub mod Addresses
 pub mod Answers
+pub mod Block
 pub mod Cells
 pub mod Choice
 pub mod Folded

@@ -7,6 +7,10 @@ use Rattle.machine.specs.Bits.{bit}
 use Rattle.machine.specs.Image.{folded}
 use Rattle.machine.specs.Sizes.{columns}
 
+-- all used bytes lie in the block from 8000 to BFFF
+abbrev pub videoBlock : ℕ
+videoBlock = 0x8000
+
 -- bit 2 of the mode chooses hires, else text
 abbrev pub isHires : ℕ → Bool
 isHires mode = bit 4 mode

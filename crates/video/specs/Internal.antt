@@ -1,13 +1,13 @@
 -- What only the contracts of functions inside the crate cite; no promise to others rests on this page.
 -- Assumes nothing.
-use Prim.Native.Nat.{ℕ, zero, suc, _+_, _*_, _/_, _%_}
+use Prim.Native.Nat.{ℕ, zero, suc, _+_, _-_, _*_, _/_, _%_}
 use mathlib.Core.Bool.{cond}
 use mathlib.Core.List.{List, [], _∷_, _++_, map, Option·toList}
 use lib.ListN.{length, take, drop}
 use Rattle.machine.specs.Bits.{bit}
-use Rattle.machine.specs.Image.{Image, folded}
+use Rattle.machine.specs.Image.{Image}
 use Rattle.machine.specs.Sizes.{columns}
-use Rattle.video.specs.Address.{textStart, hiresStart, textCharacters, hiresCharacters}
+use Rattle.video.specs.Address.{videoBlock, textStart, hiresStart}
 use Rattle.video.specs.Cell.{Cell, screenAddresses, characterAddresses}
 use Rattle.video.specs.Line.{registersBefore, lineCells}
 use Rattle.video.specs.Pattern.{patternWeights, patternColours, complemented}
@@ -15,30 +15,19 @@ use Rattle.video.specs.Ram.{Ram}
 use Rattle.video.specs.Registers.{shownInk}
 use Rattle.video.specs.State.{withMode}
 use Rattle.video.specs.declared.address.Scanline.{Scanline}
-use Rattle.video.specs.declared.address.Starts.{Starts}
 use Rattle.video.specs.declared.answer.Painted.{Painted}
 use Rattle.video.specs.declared.cell.PaintedCell.{PaintedCell}
 use Rattle.video.specs.declared.line.PaintedLine.{PaintedLine}
 use Rattle.video.specs.declared.registers.Registers.{Registers}
 use Rattle.video.specs.declared.state.State.{State}
 
--- where screen bytes and a character set begin, folded
-abbrev pub starts : ℕ → ℕ → ℕ → Starts
-starts profile screen characters = record { screen = folded profile screen; characters = folded profile characters }
+-- the RAM that is painted from: the block of an image that video reads, as a 16K machine has it
+abbrev pub blockRam : Image → Ram
+blockRam block = record { profile = 1; image = block }
 
--- the record of a line of a profile
-abbrev pub scanline : ℕ → ℕ → Scanline
-scanline profile line =
-    record {
-      profile = profile;
-      number = line;
-      text = starts profile (textStart line) textCharacters;
-      hires = starts profile (hiresStart line) hiresCharacters;
-    }
-
--- the RAM that the line of a record is read from
-abbrev pub ramBy : Image → Scanline → Ram
-ramBy image line = record { profile = line .profile; image = image }
+-- the record of a line: its starts, counted from the block's
+abbrev pub scanline : ℕ → Scanline
+scanline line = record { number = line; text = textStart line - videoBlock; hires = hiresStart line - videoBlock }
 
 -- the six pixels of a pattern under a screen byte
 abbrev pub shown : Registers → ℕ → ℕ → ℕ → List ℕ

@@ -8,6 +8,7 @@ use lib.ListN.{getD, length}
 use Rattle.machine.specs.Image.{Image, imageLength, folded, byteAt}
 use Rattle.machine.specs.Lists.{Each}
 use Rattle.machine.specs.Sizes.{cellLength, columns, lines}
+use Rattle.video.specs.Address.{videoBlock}
 use Rattle.video.specs.Cell.{Cell, pixels, screenAddresses, used}
 use Rattle.video.specs.Frame.{modeBefore, frameCells}
 use Rattle.video.specs.Line.{cellAt, lineCells}
@@ -128,20 +129,21 @@ foldedCell profile c =
       registers = c .registers;
     }
 
--- the image of a 16K machine stands in that of a 48K machine from 8000 to BFFF
-abbrev pub StandsAt8000 : Image → Image → Type 0
-StandsAt8000 small large = (address : ℕ) → address < imageLength 1 → byteAt large (0x8000 + address) ≡ byteAt small address
+-- the image of a 16K machine stands in that of a machine of some profile from 8000 to BFFF
+abbrev pub StandsIn : ℕ → Image → Image → Type 0
+StandsIn profile small large =
+    (place : ℕ) → place < imageLength 1 → byteAt large (folded profile (videoBlock + place)) ≡ byteAt small place
 
--- then both paint the same cells, but for the addresses, which are folded
+-- then both paint the same cells, but for the addresses, which the 16K machine folds
 abbrev pub FrameFolds : Type 0
 FrameFolds =
-    (small large : Image) (state : State) → StandsAt8000 small large
-    → frameCells small (withProfile 1 state) ≡ map (foldedCell 1) (frameCells large (withProfile 0 state))
+    (small large : Image) (state : State) → StandsIn (state .profile) small large
+    → frameCells small (withProfile 1 state) ≡ map (foldedCell 1) (frameCells large state)
 
 -- so they show the same pixels, use as many bytes, at folded addresses, and leave the same mode
 abbrev pub FoldedFrameShowsSame : Type 0
 FoldedFrameShowsSame =
-    (small large : Image) (state : State) → StandsAt8000 small large
+    (small large : Image) (state : State) → StandsIn (state .profile) small large
     → let folding = frameCells small (withProfile 1 state) in
-    let plain = frameCells large (withProfile 0 state) in
+    let plain = frameCells large state in
     (pixels folding ≡ pixels plain) × (used folding ≡ map (folded 1) (used plain)) × (painted state folding ≡ painted state plain)

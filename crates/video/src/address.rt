@@ -4,7 +4,7 @@ ghost use Prim.Native.Nat.{_<_, _%_};
 ghost use Rattle.machine.specs.Sizes.{columns, lines};
 ghost use Rattle.video.specs.Address.{isHires, isBitmap, screenAddress, characterAddress};
 ghost use Rattle.video.specs.Answer.{addressRefusal, addressAnswer};
-ghost use Rattle.video.specs.Internal.{starts, scanline};
+ghost use Rattle.video.specs.Internal.{scanline};
 use crate::bits::bit;
 use crate::bits::both;
 use crate::bits::wide;
@@ -18,19 +18,23 @@ use machine::line_refusal;
 use machine::mode_refusal;
 use machine::profile_refusal;
 
+// All bytes that are used lie in the block of RAM from 8000 to BFFF, which in the 16K machine is the whole RAM. The painter is lent
+// this block alone, and counts places from its start.
+pub(crate) const BLOCK: usize = 0x8000;
+
 // The lines that can show a bitmap; those below them are text in every mode.
 const BITMAP_LINES: usize = 200;
 
-const BITMAP: usize = 0xA000;
+const BITMAP: usize = 0xA000 - BLOCK;
 
-const TEXT_SCREEN: usize = 0xBB80;
+const TEXT_SCREEN: usize = 0xBB80 - BLOCK;
 
 // A row of text, and so a character, is eight lines high.
 const ROW_LINES: usize = 8;
 
-const TEXT_CHARACTERS: usize = 0xB400;
+const TEXT_CHARACTERS: usize = 0xB400 - BLOCK;
 
-const HIRES_CHARACTERS: usize = 0x9800;
+const HIRES_CHARACTERS: usize = 0x9800 - BLOCK;
 
 const ALTERNATE_CHARACTERS: usize = 0x400;
 
@@ -55,9 +59,10 @@ pub fn screen_address(profile: u8, line: usize, column: usize, mode: u8) -> Addr
     if status != DONE {
         return Address { status, address: 0 };
     }
+    let place = Scanline::new(line).screen_address(column, wide(mode));
     Address {
         status,
-        address: Scanline::new(profile, line).screen_address(column, wide(mode)) as u16,
+        address: (fold(profile, BLOCK) + place) as u16,
     }
 }
 
@@ -74,54 +79,34 @@ fn is_hires(mode: u64) -> bool
     bit(HIRES, mode)
 }
 
-// Where the screen bytes of a line and its character set begin, folded.
-pub(crate) struct Starts {
-    pub screen: usize,
-    pub characters: usize,
-}
-
-impl Starts {
-    fn new(profile: u8, screen: usize, characters: usize) -> Self
-        ensures { λ r. ⌜ r ≡ starts profile screen characters ⌝ }
-    {
-        Self {
-            screen: fold(profile, screen),
-            characters: fold(profile, characters),
-        }
-    }
-}
-
-// A line of a profile, and where its bytes begin in text and in hires.
+// A line, and where its screen bytes begin in text and in hires.
 pub(crate) struct Scanline {
-    pub profile: u8,
     pub number: usize,
-    pub text: Starts,
-    pub hires: Starts,
+    pub text: usize,
+    pub hires: usize,
 }
 
 impl Scanline {
-    // Folded once a line: what a line uses lies in one block of 16K, so a cell's addresses are sums as before.
-    pub(crate) fn new(profile: u8, number: usize) -> Self
+    pub(crate) fn new(number: usize) -> Self
         requires { ⌜ number < lines ⌝ }
-        ensures { λ r. ⌜ r ≡ scanline profile number ⌝ }
+        ensures { λ r. ⌜ r ≡ scanline number ⌝ }
     {
         let text = TEXT_SCREEN + COLUMNS * (number / ROW_LINES);
         let bitmap = BITMAP + COLUMNS * number;
         let hires = choose_address(number < BITMAP_LINES, bitmap, text);
         Self {
-            profile,
             number,
-            text: Starts::new(profile, text, TEXT_CHARACTERS),
-            hires: Starts::new(profile, hires, HIRES_CHARACTERS),
+            text,
+            hires,
         }
     }
 
     pub(crate) fn screen_address(self, column: usize, mode: u64) -> usize
         requires { ⌜ (self .number < lines) × (column < columns) ⌝ }
-        requires { ⌜ self ≡ scanline (self .profile) (self .number) ⌝ }
-        ensures { λ r. ⌜ r ≡ screenAddress (self .profile) (self .number) column mode ⌝ }
+        requires { ⌜ self ≡ scanline (self .number) ⌝ }
+        ensures { λ r. ⌜ r ≡ screenAddress 1 (self .number) column mode ⌝ }
     {
-        choose_address(is_hires(mode), self.hires.screen, self.text.screen) + column
+        choose_address(is_hires(mode), self.hires, self.text) + column
     }
 
     pub(crate) fn is_bitmap(self, mode: u64) -> bool
@@ -132,13 +117,11 @@ impl Scanline {
 
     // Where a character has the row that the line shows.
     pub(crate) fn character_address(self, registers: Registers, byte: u8) -> usize
-        requires { ⌜ self ≡ scanline (self .profile) (self .number) ⌝ }
-        ensures { λ r. ⌜ r ≡ characterAddress (self .profile) (self .number) (registers .mode) (registers .style) (byte % 128) ⌝ }
+        ensures { λ r. ⌜ r ≡ characterAddress 1 (self .number) (registers .mode) (registers .style) (byte % 128) ⌝ }
     {
         let number = self.number;
         let code = (byte % 128) as usize;
-        let hires = is_hires(registers.mode);
-        let set = choose_address(hires, self.hires.characters, self.text.characters);
+        let set = choose_address(is_hires(registers.mode), HIRES_CHARACTERS, TEXT_CHARACTERS);
         let alternate = choose_address(bit(ALTERNATE, registers.style), ALTERNATE_CHARACTERS, 0);
         let double = bit(DOUBLE_HEIGHT, registers.style);
         let row = choose_address(double, number / 2 % ROW_LINES, number % ROW_LINES);

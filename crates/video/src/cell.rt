@@ -4,7 +4,7 @@ ghost use Prim.Native.Nat.{_≤_, _<_};
 ghost use Rattle.machine.specs.Image.{IsImage};
 ghost use Rattle.machine.specs.Sizes.{columns, lines};
 ghost use Rattle.video.specs.Cell.{cell};
-ghost use Rattle.video.specs.Internal.{scanline, ramBy, paintedCell};
+ghost use Rattle.video.specs.Internal.{blockRam, scanline, paintedCell};
 use crate::address::Scanline;
 use crate::bits::choose;
 use crate::registers::Registers;
@@ -21,20 +21,20 @@ pub(crate) struct PaintedCell {
 // A cell uses one screen byte. A picture's pattern is in the screen byte itself or in a character byte: the address is
 // chosen, so that no other byte is read.
 pub(crate) fn paint_cell(
-    memory: &[u8],
+    block: &[u8],
     counter: u8,
     line: Scanline,
     column: usize,
     before: Registers,
 ) -> PaintedCell
-    requires { ⌜ IsImage (line .profile) (now memory) ⌝ }
+    requires { ⌜ IsImage 1 (now block) ⌝ }
     requires { ⌜ (line .number < lines) × (column < columns) ⌝ }
-    requires { ⌜ line ≡ scanline (line .profile) (line .number) ⌝ }
+    requires { ⌜ line ≡ scanline (line .number) ⌝ }
     requires { ⌜ (before .ink ≤ 7) × (before .paper ≤ 7) ⌝ }
-    ensures { λ r. ⌜ r ≡ paintedCell (cell (ramBy (now (memory .entry)) line) counter (line .number) column before) ⌝ }
+    ensures { λ r. ⌜ r ≡ paintedCell (cell (blockRam (now (block .entry))) counter (line .number) column before) ⌝ }
 {
     let screen = line.screen_address(column, before.mode);
-    let byte = memory[screen];
+    let byte = block[screen];
     if is_attribute(byte) {
         let after = before.latch_attribute(byte);
         return PaintedCell {
@@ -45,7 +45,7 @@ pub(crate) fn paint_cell(
     }
     let bitmap = line.is_bitmap(before.mode);
     let definition = line.character_address(before, byte);
-    let pattern = memory[choose_address(bitmap, screen, definition)];
+    let pattern = block[choose_address(bitmap, screen, definition)];
     PaintedCell {
         registers: before,
         colours: before.paint_colours(counter, pattern, byte),

@@ -6,7 +6,8 @@ ghost use Rattle.machine.specs.Sizes.{frameLength};
 ghost use Rattle.video.specs.Answer.{painted, frameAnswer, frameContents};
 ghost use Rattle.video.specs.Cell.{pixels};
 ghost use Rattle.video.specs.Frame.{frameCells};
-ghost use Rattle.video.specs.State.{Within, afterFrame};
+ghost use Rattle.video.specs.State.{Within, withProfile, afterFrame};
+use crate::address::BLOCK;
 use crate::answer::Painted;
 use crate::answer::answer;
 use crate::answer::painting_refusal;
@@ -17,8 +18,10 @@ use crate::registers::Registers;
 use crate::state::State;
 use machine::DONE;
 use machine::FRAME_LENGTH;
+use machine::IMAGE_LENGTH_16K;
 use machine::LINE_LENGTH;
 use machine::LINES;
+use machine::fold;
 
 // One painted frame. Refusals 12, 1, 2, 3, 4.
 pub fn paint_frame(memory: &[u8], state: State, frame: &mut [u8]) -> Painted
@@ -29,15 +32,18 @@ pub fn paint_frame(memory: &[u8], state: State, frame: &mut [u8]) -> Painted
     if status != DONE {
         return refused(status, state);
     }
-    fill_frame(memory, state, frame)
+    let from = fold(state.profile, BLOCK);
+    let end = from + IMAGE_LENGTH_16K;
+    fill_frame(&memory[from..end], state, frame)
 }
 
-fn fill_frame(memory: &[u8], state: State, frame: &mut [u8]) -> Painted
-    requires { ⌜ IsImage (state .profile) (now memory) ⌝ }
+// Painted from the block of the memory that video reads.
+fn fill_frame(block: &[u8], state: State, frame: &mut [u8]) -> Painted
+    requires { ⌜ IsImage 1 (now block) ⌝ }
     requires { ⌜ length (now frame) ≡ frameLength ⌝ }
     requires { ⌜ Within state ⌝ }
-    ensures { λ r. ⌜ r ≡ painted (afterFrame state) (frameCells (now (memory .entry)) state) ⌝ }
-    ensures { λ r. ⌜ now (frame .exit) ≡ pixels (frameCells (now (memory .entry)) state) ⌝ }
+    ensures { λ r. ⌜ r ≡ painted (afterFrame state) (frameCells (now (block .entry)) (withProfile 1 state)) ⌝ }
+    ensures { λ r. ⌜ now (frame .exit) ≡ pixels (frameCells (now (block .entry)) (withProfile 1 state)) ⌝ }
 {
     let mut registers = Registers::at_line_start(wide(state.mode));
     let mut screen: u64 = 0;
@@ -46,8 +52,8 @@ fn fill_frame(memory: &[u8], state: State, frame: &mut [u8]) -> Painted
     while line < LINES {
         let from = LINE_LENGTH * line;
         let painted = fill_line(
-            memory,
-            state,
+            block,
+            state.counter,
             line,
             registers,
             &mut frame[from..from + LINE_LENGTH],

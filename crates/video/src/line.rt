@@ -7,9 +7,9 @@ ghost use Rattle.machine.specs.Image.{IsImage};
 ghost use Rattle.machine.specs.Sizes.{columns, lines, lineLength};
 ghost use Rattle.video.specs.Answer.{lineAnswer, lineContents};
 ghost use Rattle.video.specs.Cell.{Cell, pixels};
-ghost use Rattle.video.specs.Internal.{paintedLine};
+ghost use Rattle.video.specs.Internal.{blockRam, paintedLine};
 ghost use Rattle.video.specs.Line.{lineCells};
-ghost use Rattle.video.specs.Ram.{ramOf};
+use crate::address::BLOCK;
 use crate::address::Scanline;
 use crate::answer::Painted;
 use crate::answer::answer;
@@ -22,7 +22,9 @@ use crate::state::State;
 use machine::CELL_LENGTH;
 use machine::COLUMNS;
 use machine::DONE;
+use machine::IMAGE_LENGTH_16K;
 use machine::LINE_LENGTH;
+use machine::fold;
 use machine::line_refusal;
 
 // The registers that a line leaves, and how many screen bytes and character bytes it used.
@@ -43,27 +45,28 @@ pub fn paint_line(memory: &[u8], state: State, line: usize, output: &mut [u8]) -
         return refused(status, state);
     }
     let before = Registers::at_line_start(wide(state.mode));
-    let painted = fill_line(memory, state, line, before, output);
+    let from = fold(state.profile, BLOCK);
+    let end = from + IMAGE_LENGTH_16K;
+    let painted = fill_line(&memory[from..end], state.counter, line, before, output);
     let registers = painted.registers;
     answer(state, registers.mode, painted.screen, painted.character)
 }
 
-// The state gives counter and profile; the mode is that of the registers.
 pub(crate) fn fill_line(
-    memory: &[u8],
-    state: State,
+    block: &[u8],
+    counter: u8,
     line: usize,
     before: Registers,
     output: &mut [u8],
 ) -> PaintedLine
-    requires { ⌜ IsImage (state .profile) (now memory) ⌝ }
+    requires { ⌜ IsImage 1 (now block) ⌝ }
     requires { ⌜ line < lines ⌝ }
     requires { ⌜ length (now output) ≡ lineLength ⌝ }
-    ensures { λ r. ⌜ r ≡ paintedLine (ramOf (now (memory .entry)) state) (state .counter) line (before .mode) ⌝ }
-    ensures { λ r. ⌜ now (output .exit) ≡ pixels (lineCells (ramOf (now (memory .entry)) state) (state .counter) line (before .mode)) ⌝ }
+    ensures { λ r. ⌜ r ≡ paintedLine (blockRam (now (block .entry))) counter line (before .mode) ⌝ }
+    ensures { λ r. ⌜ now (output .exit) ≡ pixels (lineCells (blockRam (now (block .entry))) counter line (before .mode)) ⌝ }
 {
     let mut cells = [[0u8; 6]; 40];
-    let painted = paint_cells(memory, state, line, before, &mut cells);
+    let painted = paint_cells(block, counter, line, before, &mut cells);
     let mut column: usize = 0;
     while column < COLUMNS {
         let from = CELL_LENGTH * column;
@@ -78,25 +81,25 @@ pub(crate) fn fill_line(
 }
 
 fn paint_cells(
-    memory: &[u8],
-    state: State,
+    block: &[u8],
+    counter: u8,
     line: usize,
     before: Registers,
     cells: &mut [[u8; 6]; 40],
 ) -> PaintedLine
-    requires { ⌜ IsImage (state .profile) (now memory) ⌝ }
+    requires { ⌜ IsImage 1 (now block) ⌝ }
     requires { ⌜ line < lines ⌝ }
     requires { ⌜ length (now cells) ≡ columns ⌝ }
-    ensures { λ r. ⌜ r ≡ paintedLine (ramOf (now (memory .entry)) state) (state .counter) line (before .mode) ⌝ }
-    ensures { λ r. ⌜ now (cells .exit) ≡ map (λ (c : Cell). c .colours) (lineCells (ramOf (now (memory .entry)) state) (state .counter) line (before .mode)) ⌝ }
+    ensures { λ r. ⌜ r ≡ paintedLine (blockRam (now (block .entry))) counter line (before .mode) ⌝ }
+    ensures { λ r. ⌜ now (cells .exit) ≡ map (λ (c : Cell). c .colours) (lineCells (blockRam (now (block .entry))) counter line (before .mode)) ⌝ }
 {
-    let place = Scanline::new(state.profile, line);
+    let place = Scanline::new(line);
     let mut registers = before.line_reset();
     let mut screen: u64 = 0;
     let mut character: u64 = 0;
     let mut column: usize = 0;
     while column < COLUMNS {
-        let cell = paint_cell(memory, state.counter, place, column, registers);
+        let cell = paint_cell(block, counter, place, column, registers);
         let colours = cell.colours;
         cells[column] = colours;
         registers = cell.registers;

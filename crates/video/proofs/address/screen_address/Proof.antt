@@ -1,14 +1,14 @@
 -- `video::screen_address` meets its contract: refused or not by the status, and the address fits since it is below C000.
 -- Assumes nothing.
-use Prim.Native.Nat.{ℕ, _<_}
-use mathlib.Core.Path.{_≡_, refl, sym, ap, _∙_}
+use Prim.Native.Nat.{ℕ, _+_, _<_}
+use mathlib.Core.Path.{_≡_, refl, sym, ap, ap₂, _∙_}
 use native.Mathlib.Omega.{arith}
 use Rattle.machine.specs.Sizes.{columns, lines}
 use Rattle.machine.proofs.Refusals.{done, refused}
 use Rattle.video.specs.Address.{screenAddress}
 use Rattle.video.specs.Answer.{addressRefusal}
 use Rattle.video.proofs.Accepted.{accepted-address}
-use Rattle.video.proofs.Addresses.{screen-below}
+use Rattle.video.proofs.Addresses.{block-moved, screen-in-block, screen-below}
 use Rattle.video.specs.declared.address.Address.{Address}
 use Rattle.video.proofs.address.screen_address.Statement.{statement}
 use Rattle.video.proofs.address.screen_address.Tie as tie
@@ -34,27 +34,36 @@ new-requires c κs = accepted c .0
 screen-address-requires : tie.Need-screen-address-requires
 screen-address-requires c κs = let known = accepted (c .before .before) in rw (c .before .new .ensures) (known, refl)
 
--- the address is that of the line and the mode as they were given
-address : (k : tie.After-screen-address)
-    → let a = k .before .before .before .before .before .args in
-    k .screen-address .result ≡ screenAddress (a .profile) (a .line) (a .column) (a .mode)
+-- the address is that of the line and the mode as they were given, as far from the block's start as the place
+address : (k : tie.After-fold)
+    → let a = k .before .before .before .before .before .before .args in
+    k .fold .result + k .before .screen-address .result ≡ screenAddress (a .profile) (a .line) (a .column) (a .mode)
 address k =
-    let a = k .before .before .before .before .before .args in
-    k .screen-address .ensures ∙ rw (k .before .before .new .ensures) (ap (screenAddress (a .profile) (a .line) (a .column)) (k .before .wide .ensures))
+    let passed = k .before .before .before .before in
+    let a = passed .before .before .args in
+    let known = accepted passed in
+    let place : k .before .screen-address .result ≡ screenAddress 1 (a .line) (a .column) (a .mode) =
+    k .before .screen-address .ensures
+    ∙ rw (k .before .before .before .new .ensures) (ap (screenAddress 1 (a .line) (a .column)) (k .before .before .wide .ensures)) in
+    ap₂ _+_ (k .fold .ensures .0) place
+    ∙ sym (block-moved (a .profile) (screenAddress 0 (a .line) (a .column) (a .mode)) (screen-in-block 0 (a .line) (a .column) (a .mode) (known .0) (known .1)))
 
-cast-t10 : tie.Need-cast-t10
-cast-t10 c =
-    let a = c .before .before .before .before .before .args in
-    let known = accepted (c .before .before .before) in
-    omega (arith, screen-below (a .profile) (a .line) (a .column) (a .mode) (known .0) (known .1), address c)
+-- so the sum fits
+below : (k : tie.After-fold) → k .fold .result + k .before .screen-address .result < 0xC000
+below k =
+    let passed = k .before .before .before .before in
+    let a = passed .before .before .args in
+    let known = accepted passed in
+    rw (address k) (screen-below (a .profile) (a .line) (a .column) (a .mode) (known .0) (known .1))
 
 returns-2 : tie.Need-returns-2
 returns-2 c =
-    let status = c .before .before .before .before .address-refusal in
-    let a = c .before .before .before .before .before .args in
+    let passed = c .before .before .before .before in
+    let status = passed .before .address-refusal in
+    let a = passed .before .before .args in
     let number = addressRefusal (a .profile) (a .line) (a .column) (a .mode) in
     rw (status .ensures, address c)
-    (ap (with-address number) (sym (done number _ 0 (sym (status .ensures) ∙ c .before .before .before .if1 .left))))
+    (ap (with-address number) (sym (done number _ 0 (sym (status .ensures) ∙ passed .if1 .left))))
 
 pub screen-address-spec : {M : Type 1} → statement M
 screen-address-spec =
@@ -65,5 +74,7 @@ screen-address-spec =
     new-requires
     (λ c κs. tt)
     screen-address-requires
-    cast-t10
+    (λ c κs. tt)
+    (λ c. omega (arith, below c))
+    (λ c. omega (arith, below c))
     returns-2)

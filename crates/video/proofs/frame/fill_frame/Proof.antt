@@ -8,7 +8,7 @@ use denote.Ref.{now}
 use borrow.Rule.Slice.PartMut.{putMid}
 use Rattle.machine.specs.Sizes.{lines, lineLength}
 use Rattle.machine.proofs.Lists.{piece-size}
-use Rattle.video.specs.Ram.{ramOf}
+use Rattle.video.specs.Internal.{blockRam}
 use Rattle.video.proofs.Frames.{characters-down, modes-small}
 use Rattle.video.proofs.frame.fill_frame.Proof.Progress.{Reached, none, next, all}
 use Rattle.video.specs.declared.registers.Registers.{Registers}
@@ -16,17 +16,17 @@ use Rattle.video.proofs.frame.fill_frame.Statement.{statement}
 use Rattle.video.proofs.frame.fill_frame.Tie as tie
 
 abbrev Inv-loop : tie.InvT-loop
-Inv-loop memory state frame₀ registers₀ screen₀ character₀ line₀ frame registers screen character line =
-    Reached memory state frame registers screen character line
+Inv-loop block state frame₀ registers₀ screen₀ character₀ line₀ frame registers screen character line =
+    Reached block state frame registers screen character line
 
 abbrev μ-loop : tie.MeasureT-loop
-μ-loop memory state frame₀ registers₀ screen₀ character₀ line₀ frame registers screen character line =
+μ-loop block state frame₀ registers₀ screen₀ character₀ line₀ frame registers screen character line =
     lines - line
 
 loop-holds : tie.Need-loop-holds Inv-loop μ-loop
 loop-holds c =
     let start = c .before .before .before .before in
-    none (now (start .args .memory)) (start .args .state) (now (start .args .frame)) (c .at-line-start .result) (start .pre .1 .0)
+    none (now (start .args .block)) (start .args .state) (now (start .args .frame)) (c .at-line-start .result) (start .pre .1 .0)
     (ap (λ (r : Registers). r .mode) (c .at-line-start .ensures) ∙ c .before .wide .ensures)
 
 fill-line-requires : tie.Need-fill-line-requires Inv-loop μ-loop
@@ -40,7 +40,7 @@ grown : (f : tie.After-fill-line Inv-loop μ-loop)
     → let here = f .before .before .before .loop in
     let a = f .before .before .before .before .before .before .before .before .args in
     let answer = f .fill-line .result in
-    Reached (now (a .memory)) (a .state)
+    Reached (now (a .block)) (a .state)
     (putMid (lineLength * here .line) (lineLength * here .line + lineLength - lineLength * here .line) (here .frame) (f .fill-line .last .1 .1 .1 .1 .0))
     (answer .registers) (here .screen + answer .screen) (here .character + answer .character) (here .line + 1)
 grown f =
@@ -56,7 +56,7 @@ add-character : tie.Need-add-character Inv-loop μ-loop
 add-character c =
     let at = c .before .before .before .before .before .before .before .before in
     let a = at .before .before .before .before .before .args in
-    omega (arith, loop-again c .characters, characters-down (ramOf (now (a .memory)) (a .state)) (a .state .counter) (a .state .mode) (at .loop .line + 1))
+    omega (arith, loop-again c .characters, characters-down (blockRam (now (a .block))) (a .state .counter) (a .state .mode) (at .loop .line + 1))
 
 after-frame-requires : tie.Need-after-frame-requires Inv-loop μ-loop
 after-frame-requires c κs = c .before .before .before .before .before .before .pre .1 .1 .counter
@@ -66,9 +66,9 @@ answer-requires c κs =
     let here = c .before .before .loop in
     let start = c .before .before .before .before .before .before .before in
     let a = start .args in
-    let mode = modes-small (ramOf (now (a .memory)) (a .state)) (a .state .mode) (start .pre .1 .1 .mode) (here .line) in (
+    let mode = modes-small (blockRam (now (a .block))) (a .state .mode) (start .pre .1 .1 .mode) (here .line) in (
       rw (here .inv .path) mode,
-      omega (arith, here .inv .characters, characters-down (ramOf (now (a .memory)) (a .state)) (a .state .counter) (a .state .mode) (here .line)),
+      omega (arith, here .inv .characters, characters-down (blockRam (now (a .block))) (a .state .counter) (a .state .mode) (here .line)),
     )
 
 returns : tie.Need-returns Inv-loop μ-loop

@@ -15,8 +15,8 @@ use Rattle.machine.specs.Sizes.{cellLength, columns, lineLength}
 use Rattle.machine.proofs.Each.{each-at}
 use Rattle.machine.proofs.Lists.{flatten-append}
 use Rattle.video.specs.Cell.{Cell, pixels}
+use Rattle.video.specs.Internal.{blockRam}
 use Rattle.video.specs.Line.{lineCells}
-use Rattle.video.specs.Ram.{ramOf}
 use Rattle.video.proofs.Lines.{Six, cells-length, line-sixes}
 use Rattle.video.proofs.line.fill_line.Statement.{statement}
 use Rattle.video.proofs.line.fill_line.Tie as tie
@@ -28,18 +28,18 @@ flatten-next cells column h =
     simp (add-one, take-suc cells column [] h, flatten-append (take column cells) (getD cells column [] ∷ []), append-nil)
 
 abbrev Inv-loop2 : tie.InvT-loop2
-Inv-loop2 memory line output₀ cells painted column from k₀ output k =
+Inv-loop2 block counter line output₀ cells painted column from k₀ output k =
     (k ≤ cellLength) × (length output ≡ lineLength) × (take (from + k) output ≡ flatten (take column cells) ++ take k (getD cells column []))
 
 abbrev μ-loop2 : tie.MeasureT-loop2
-μ-loop2 memory line output₀ cells painted column from k₀ output k = cellLength - k
+μ-loop2 block counter line output₀ cells painted column from k₀ output k = cellLength - k
 
 abbrev Inv-loop : tie.InvT-loop
-Inv-loop memory line output₀ cells painted column₀ output column =
+Inv-loop block counter line output₀ cells painted column₀ output column =
     (column ≤ columns) × (length output ≡ lineLength) × (take (cellLength * column) output ≡ flatten (take column cells))
 
 abbrev μ-loop : tie.MeasureT-loop
-μ-loop memory line output₀ cells painted column₀ output column = columns - column
+μ-loop block counter line output₀ cells painted column₀ output column = columns - column
 
 -- the cells are forty times six colours
 module _ (k : tie.After-paint-cells Inv-loop2 μ-loop2 Inv-loop μ-loop) where
@@ -47,20 +47,20 @@ module _ (k : tie.After-paint-cells Inv-loop2 μ-loop2 Inv-loop μ-loop) where
   cellsOf = k .paint-cells .last .1 .1 .1 .1 .0
 
   abbrev lineOf : List Cell
-  lineOf = let a = k .before .before .before .before .args in lineCells (ramOf (now (a .memory)) (a .state)) (a .state .counter) (a .line) (a .before .mode)
+  lineOf = let a = k .before .before .before .before .args in lineCells (blockRam (now (a .block))) (a .counter) (a .line) (a .before .mode)
 
   forty : length cellsOf ≡ columns
   forty =
       let a = k .before .before .before .before .args in
       ap length (k .paint-cells .ensures .1)
       ∙ length-map lineOf (λ (c : Cell). c .colours)
-      ∙ cells-length (ramOf (now (a .memory)) (a .state)) (a .state .counter) (a .line) (a .before .mode) columns
+      ∙ cells-length (blockRam (now (a .block))) (a .counter) (a .line) (a .before .mode) columns
 
   six : (column : ℕ) → column < columns → Six (getD cellsOf column [])
   six column h =
       let a = k .before .before .before .before .args in
       let all : Each Six cellsOf =
-      rw (k .paint-cells .ensures .1) (line-sixes (ramOf (now (a .memory)) (a .state)) (a .state .counter) (a .line) (a .before .mode)) in
+      rw (k .paint-cells .ensures .1) (line-sixes (blockRam (now (a .block))) (a .counter) (a .line) (a .before .mode)) in
       each-at Six cellsOf all column [] (omega (arith, forty))
 
 loop-holds : tie.Need-loop-holds Inv-loop2 μ-loop2 Inv-loop μ-loop

@@ -6,8 +6,8 @@ use mathlib.Core.Path.{_≡_, refl, sym, ap, _∙_}
 use native.Mathlib.Omega.{arith}
 use denote.Ref.{now}
 use Rattle.machine.specs.Sizes.{columns}
+use Rattle.video.specs.Internal.{blockRam}
 use Rattle.video.specs.Line.{firstCells}
-use Rattle.video.specs.Ram.{ramOf}
 use Rattle.video.specs.Registers.{lineReset}
 use Rattle.video.proofs.Lines.{cells-length, registers-coloured}
 use Rattle.video.proofs.Readings.{characters-most}
@@ -17,11 +17,11 @@ use Rattle.video.proofs.line.paint_cells.Statement.{statement}
 use Rattle.video.proofs.line.paint_cells.Tie as tie
 
 abbrev Inv-loop : tie.InvT-loop
-Inv-loop memory state line cells₀ place registers₀ screen₀ character₀ column₀ cells registers screen character column =
-    Reached (ramOf memory state) (state .counter) line (registers₀ .mode) cells registers screen character column
+Inv-loop block counter line cells₀ place registers₀ screen₀ character₀ column₀ cells registers screen character column =
+    Reached (blockRam block) counter line (registers₀ .mode) cells registers screen character column
 
 abbrev μ-loop : tie.MeasureT-loop
-μ-loop memory state line cells₀ place registers₀ screen₀ character₀ column₀ cells registers screen character column =
+μ-loop block counter line cells₀ place registers₀ screen₀ character₀ column₀ cells registers screen character column =
     columns - column
 
 new-requires : tie.Need-new-requires Inv-loop μ-loop
@@ -40,7 +40,7 @@ paint-cell-requires : tie.Need-paint-cell-requires Inv-loop μ-loop
 paint-cell-requires c κs =
     let reset = c .before .before in
     let start = reset .before .before .before in
-    let known = registers-coloured (ramOf (now (start .args .memory)) (start .args .state)) (start .args .line) (reset .line-reset .result .mode) (c .before .loop .column) in
+    let known = registers-coloured (blockRam (now (start .args .block))) (start .args .line) (reset .line-reset .result .mode) (c .before .loop .column) in
     rw (reset .before .new .ensures)
     (start .pre .0, ((start .pre .1 .0, omega arith), (refl, rw (c .before .loop .inv .path) (known .ink, known .paper))))
 
@@ -56,12 +56,12 @@ add-character c =
     let a = reset .before .before .before .args in
     let column = c .before .before .before .before .before .loop .column in
     let mode = reset .line-reset .result .mode in
-    let ram = ramOf (now (a .memory)) (a .state) in
+    let ram = blockRam (now (a .block)) in
     omega (
       arith,
       loop-again c .characters,
-      characters-most (firstCells ram (a .state .counter) (a .line) mode (column + 1)),
-      cells-length ram (a .state .counter) (a .line) mode (column + 1),
+      characters-most (firstCells ram (a .counter) (a .line) mode (column + 1)),
+      cells-length ram (a .counter) (a .line) mode (column + 1),
     )
 
 returns : tie.Need-returns Inv-loop μ-loop

@@ -1,6 +1,7 @@
--- `video::paint_line` meets its contract: the status is the refusal of its list, and decides between refusal and line.
+-- `video::paint_line` meets its contract: the status is the refusal of its list, and decides between refusal and line, which is
+-- painted from the block that video reads.
 -- Assumes nothing.
-use Prim.Native.Nat.{ℕ}
+use Prim.Native.Nat.{ℕ, _<_}
 use mathlib.Core.List.{List}
 use mathlib.Core.Path.{_≡_, sym, ap, _∙_}
 use native.Mathlib.Omega.{arith}
@@ -8,15 +9,16 @@ use lib.ListN.{length}
 use denote.Ref.{now}
 use borrow.Author.Needs.{needs}
 use Rattle.machine.specs.Refusal.{given, lineCheck}
-use Rattle.machine.specs.Sizes.{columns, lineLength}
+use Rattle.machine.specs.Sizes.{columns, lines, lineLength}
 use Rattle.machine.proofs.Refusals.{line-passed}
 use Rattle.video.specs.Answer.{lineRefusal, cellsOfLine, lineAnswer, lineContents}
 use Rattle.video.specs.Cell.{Cell, pixels}
-use Rattle.video.specs.Internal.{paintedLine}
+use Rattle.video.specs.Internal.{blockRam, paintedLine}
 use Rattle.video.specs.Line.{lineCells}
-use Rattle.video.specs.Ram.{Ram, ramOf}
+use Rattle.video.specs.Ram.{Ram}
 use Rattle.video.proofs.Accepted.{Paintable, accepted-painting}
 use Rattle.video.proofs.Answers.{painting-refused, painting-done}
+use Rattle.video.proofs.Block.{block-fits, block, block-sized, line-of-block}
 use Rattle.video.proofs.Lines.{cells-length, mode-after, mode-small, line-uses-screen-bytes}
 use Rattle.video.proofs.Readings.{characters-most}
 use Rattle.video.specs.declared.registers.Registers.{Registers}
@@ -55,42 +57,65 @@ module _ (e : tie.Else1) where
       let a = start .args in
       accepted-painting (length (now (a .memory))) lineLength (length (now (a .output))) (a .state) (given (lineCheck (a .line)) 0) accepted
 
+  fits : start .args .line < lines
+  fits = line-passed 0 (start .args .line) (paintable .rest) .holds
+
+-- where the block begins
+abbrev past : tie.After-fold → tie.Else1
+past k = k .before .before .before
+
+part-fill-line-end : tie.Need-part-fill-line-end
+part-fill-line-end c =
+    let a = start (past c) .args in
+    omega (arith, block-fits (now (a .memory)) (a .state) (paintable (past c) .image) (c .fold .result) (c .fold .ensures .0))
+
 fill-line-requires : tie.Need-fill-line-requires
 fill-line-requires c κs =
-    let e = c .before .before .before in
-    let known = paintable e in
-    (known .image, (line-passed 0 (start e .args .line) (known .rest) .holds, known .lent))
+    let k = c .before .before in
+    let a = start (past k) .args in
+    let known = paintable (past k) in
+    (block-sized (now (a .memory)) (a .state) (known .image) (k .fold .result) (k .fold .ensures .0), (fits (past k), known .lent))
 
 -- the line begins in the state's mode
 module _ (f : tie.After-fill-line) where
+  abbrev folding : tie.After-fold
+  folding = f .before .before .before
+
   abbrev entry : tie.Start
-  entry = start (f .before .before .before .before)
+  entry = start (past folding)
 
   abbrev ram : Ram
-  ram = ramOf (now (entry .args .memory)) (entry .args .state)
+  ram =
+      let a = entry .args in
+      blockRam (block (now (a .memory)) (a .state) (paintable (past folding) .image) (folding .fold .result) (folding .fold .ensures .0))
 
-  carried : f .before .before .at-line-start .result .mode ≡ entry .args .state .mode
-  carried = ap (λ (r : Registers). r .mode) (f .before .before .at-line-start .ensures) ∙ f .before .before .before .wide .ensures
+  carried : folding .before .at-line-start .result .mode ≡ entry .args .state .mode
+  carried = ap (λ (r : Registers). r .mode) (folding .before .at-line-start .ensures) ∙ folding .before .before .wide .ensures
 
   painted-is : let a = entry .args in f .fill-line .result ≡ paintedLine ram (a .state .counter) (a .line) (a .state .mode)
   painted-is = let a = entry .args in f .fill-line .ensures .0 ∙ ap (paintedLine ram (a .state .counter) (a .line)) carried
+
+  abbrev read : List Cell
+  read = let a = entry .args in lineCells ram (a .state .counter) (a .line) (a .state .mode)
 
 answer-requires : tie.Need-answer-requires
 answer-requires c κs =
     let f = c .before .before .before in
     let a = entry f .args in
-    let small = mode-small (ram f) (a .line) (a .state .mode) (paintable (f .before .before .before .before) .within .mode) columns in
+    let small = mode-small (ram f) (a .line) (a .state .mode) (paintable (past (folding f)) .within .mode) columns in
     rw (painted-is f)
-    (small, (omega (arith, line-uses-screen-bytes (ram f) (a .state .counter) (a .line) (a .state .mode)), omega (arith, characters-most (cells (entry f)), cells-length (ram f) (a .state .counter) (a .line) (a .state .mode) columns)))
+    (small, (omega (arith, line-uses-screen-bytes (ram f) (a .state .counter) (a .line) (a .state .mode)), omega (arith, characters-most (read f), cells-length (ram f) (a .state .counter) (a .line) (a .state .mode) columns)))
 
 returns-2 : tie.Need-returns-2
 unfolding lineAnswer lineContents
 returns-2 c =
     let f = c .before .before .before .before in
     let a = entry f .args in
-    let left = painting-done (lineRefusal (now (a .memory)) (a .state) (a .line) (now (a .output))) (a .state) (a .state) (cells (entry f)) (now (a .output)) (accepted (f .before .before .before .before)) in (
-      c .answer .ensures ∙ rw (painted-is f) (rw (← mode-after (ram f) (a .state .counter) (a .line) (a .state .mode) columns) (left .0)),
-      f .fill-line .ensures .1 ∙ ap (λ (m : ℕ). pixels (lineCells (ram f) (a .state .counter) (a .line) m)) (carried f) ∙ left .1,
+    let k = folding f in
+    let left = painting-done (lineRefusal (now (a .memory)) (a .state) (a .line) (now (a .output))) (a .state) (a .state) (cells (entry f)) (now (a .output)) (accepted (past k)) in
+    let same = line-of-block (now (a .memory)) (a .state) (paintable (past k) .image) (k .fold .result) (k .fold .ensures .0) (a .line) (fits (past k)) in (
+      c .answer .ensures ∙ rw (painted-is f) (rw (← mode-after (ram f) (a .state .counter) (a .line) (a .state .mode) columns) (same .0 ∙ left .0)),
+      f .fill-line .ensures .1 ∙ ap (λ (m : ℕ). pixels (lineCells (ram f) (a .state .counter) (a .line) m)) (carried f) ∙ same .1 ∙ left .1,
     )
 
 pub paint-line-spec : {M : Type 1} → statement M
@@ -103,6 +128,11 @@ paint-line-spec =
     returns
     (λ c κs. tt)
     (λ c κs. tt)
+    (λ c κs. tt)
+    (λ c. search needs)
+    (λ c. search needs)
+    (λ c. search needs)
+    part-fill-line-end
     fill-line-requires
     answer-requires
     (λ c. search needs)

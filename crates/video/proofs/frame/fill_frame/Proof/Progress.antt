@@ -14,10 +14,10 @@ use Rattle.machine.proofs.Lists.{piece-length, piece-done}
 use Rattle.video.specs.Answer.{painted}
 use Rattle.video.specs.Cell.{Cell, pixels, characterAddresses}
 use Rattle.video.specs.Frame.{modeAfterLines, modeBefore, lineOf, firstLines, frameCells}
-use Rattle.video.specs.Internal.{answered, paintedLine}
+use Rattle.video.specs.Internal.{blockRam, answered, paintedLine}
 use Rattle.video.specs.Line.{lineCells}
-use Rattle.video.specs.Ram.{Ram, ramOf}
-use Rattle.video.specs.State.{afterFrame}
+use Rattle.video.specs.Ram.{Ram}
+use Rattle.video.specs.State.{withProfile, afterFrame}
 use Rattle.video.proofs.Frames.{lines-next, mode-next, mode-down, frame-uses-screen-bytes}
 use Rattle.video.proofs.Lines.{line-pixels, line-uses-screen-bytes}
 use Rattle.video.proofs.Readings.{pixels-append, characters-append}
@@ -27,7 +27,7 @@ use Rattle.video.specs.declared.state.State.{State}
 
 module _ (image : Image) (state : State) where
   abbrev ram : Ram
-  ram = ramOf image state
+  ram = blockRam image
 
   abbrev first : ℕ → List Cell
   first = firstLines ram (state .counter) (state .mode)
@@ -71,10 +71,10 @@ module _ (image : Image) (state : State) where
         }
 
     pub all : lines ≤ line
-        → (answered (afterFrame state) (registers .mode) screen character ≡ painted (afterFrame state) (frameCells image state))
-        × (frame ≡ pixels (frameCells image state))
+        → (answered (afterFrame state) (registers .mode) screen character ≡ painted (afterFrame state) (frameCells image (withProfile 1 state)))
+        × (frame ≡ pixels (frameCells image (withProfile 1 state)))
     all end =
         let e : line ≡ lines = omega arith in (
-          rw (here .path, here .screens, here .characters, e, mode-down ram (state .counter) (state .mode) lines, frame-uses-screen-bytes image state),
+          rw (here .path, here .screens, here .characters, e, mode-down ram (state .counter) (state .mode) lines, frame-uses-screen-bytes image (withProfile 1 state)),
           sym (take-all (lineLength * line) frame (omega arith)) ∙ here .filled ∙ ap (λ (n : ℕ). pixels (first n)) e,
         )
