@@ -1,7 +1,7 @@
--- Laws of folded addresses: none is larger than before, each is inside the image, and within one block folding keeps distances.
+-- Laws of folded addresses: none is larger than before, and each is inside the image.
 -- Two profiles whose images have one length are one profile.
 -- Assumes nothing.
-use Prim.Native.Nat.{ℕ, _+_, _%_, _<_, _≤_, _/_}
+use Prim.Native.Nat.{ℕ, _%_, _<_, _≤_}
 use mathlib.Core.Bool.{Bool, true, false}
 use mathlib.Core.Path.{_≡_, refl, sym, _∙_}
 use native.Mathlib.Omega.{arith}
@@ -18,13 +18,6 @@ module _ (profile : ℕ) where
   pub folded-inside : (address : ℕ) → address < 65536 → folded profile address < imageLength profile
   folded-inside address fits =
       cond-both (λ (n size : ℕ). n < size) (is16K profile) (address % blockLength) address blockLength 65536 (omega arith) fits
-
-  -- an address and one behind it in the same block
-  pub folded-sum : (address offset : ℕ) → address / blockLength ≡ (address + offset) / blockLength
-      → folded profile (address + offset) ≡ folded profile address + offset
-  folded-sum address offset same =
-      cond-both (λ (sum n : ℕ). sum ≡ n + offset) (is16K profile) ((address + offset) % blockLength) (address + offset) (address % blockLength) address
-      (omega arith) refl
 
 pub one-length : (first second : ℕ) → first ≤ lastProfile → second ≤ lastProfile → imageLength first ≡ imageLength second → first ≡ second
 one-length first second f s same = go (is16K first) (is16K second) refl refl

@@ -5,7 +5,7 @@ use mathlib.Core.Bool.{cond}
 use mathlib.Core.List.{List, [], _∷_, _++_, map, Option·toList}
 use lib.ListN.{length, take, drop}
 use Rattle.machine.specs.Bits.{bit}
-use Rattle.machine.specs.Image.{Image}
+use Rattle.machine.specs.Image.{Image, blockLength, folded}
 use Rattle.machine.specs.Sizes.{columns}
 use Rattle.video.specs.Address.{videoBlock, textStart, hiresStart}
 use Rattle.video.specs.Cell.{Cell, screenAddresses, characterAddresses}
@@ -21,7 +21,11 @@ use Rattle.video.specs.declared.line.PaintedLine.{PaintedLine}
 use Rattle.video.specs.declared.registers.Registers.{Registers}
 use Rattle.video.specs.declared.state.State.{State}
 
--- the RAM that is painted from: the block of an image that video reads, as a 16K machine has it
+-- the block of an image that video reads
+abbrev pub blockOf : ℕ → Image → Image
+blockOf profile image = take blockLength (drop (folded profile videoBlock) image)
+
+-- the RAM that is painted from: that block, as the image of a 16K machine
 abbrev pub blockRam : Image → Ram
 blockRam block = record { profile = 1; image = block }
 

@@ -1,16 +1,18 @@
 // Where the bytes of a cell are.
 ghost use mathlib.Core.Path.{_≡_};
 ghost use Prim.Native.Nat.{_<_, _%_};
+ghost use Rattle.machine.specs.Image.{IsImage};
 ghost use Rattle.machine.specs.Sizes.{columns, lines};
 ghost use Rattle.video.specs.Address.{isHires, isBitmap, screenAddress, characterAddress};
 ghost use Rattle.video.specs.Answer.{addressRefusal, addressAnswer};
-ghost use Rattle.video.specs.Internal.{scanline};
+ghost use Rattle.video.specs.Internal.{blockOf, scanline};
 use crate::bits::bit;
 use crate::bits::both;
 use crate::bits::wide;
 use crate::registers::Registers;
 use machine::COLUMNS;
 use machine::DONE;
+use machine::IMAGE_LENGTH_16K;
 use machine::choose_address;
 use machine::column_refusal;
 use machine::fold;
@@ -20,7 +22,7 @@ use machine::profile_refusal;
 
 // All bytes that are used lie in the block of RAM from 8000 to BFFF, which in the 16K machine is the whole RAM. The painter is lent
 // this block alone, and counts places from its start.
-pub(crate) const BLOCK: usize = 0x8000;
+const BLOCK: usize = 0x8000;
 
 // The lines that can show a bitmap; those below them are text in every mode.
 const BITMAP_LINES: usize = 200;
@@ -49,6 +51,15 @@ const DOUBLE_HEIGHT: u64 = 2;
 pub struct Address {
     pub status: u8,
     pub address: u16,
+}
+
+pub(crate) fn video_block(memory: &[u8], profile: u8) -> &[u8]
+    requires { ⌜ IsImage profile (now memory) ⌝ }
+    ensures { λ r. ⌜ now r ≡ blockOf profile (now (memory .entry)) ⌝ }
+{
+    let from = fold(profile, BLOCK);
+    let end = from + IMAGE_LENGTH_16K;
+    &memory[from..end]
 }
 
 // Where the screen byte of a cell is. Refusals 12, 3, 5, 6.

@@ -7,7 +7,7 @@ ghost use Rattle.video.specs.Answer.{painted, frameAnswer, frameContents
 ghost use Rattle.video.specs.Cell.{pixels};
 ghost use Rattle.video.specs.Frame.{frameCells};
 ghost use Rattle.video.specs.State.{Within, withProfile, afterFrame};
-use crate::address::BLOCK;
+use crate::address::video_block;
 use crate::answer::Painted;
 use crate::answer::answer;
 use crate::answer::painting_refusal;
@@ -18,10 +18,8 @@ use crate::registers::Registers;
 use crate::state::State;
 use machine::DONE;
 use machine::FRAME_LENGTH;
-use machine::IMAGE_LENGTH_16K;
 use machine::LINE_LENGTH;
 use machine::LINES;
-use machine::fold;
 
 // One painted frame. Refusals 12, 1, 2, 3, 4.
 pub fn paint_frame(memory: &[u8], state: State, frame: &mut [u8]) -> Painted
@@ -32,9 +30,7 @@ pub fn paint_frame(memory: &[u8], state: State, frame: &mut [u8]) -> Painted
     if status != DONE {
         return refused(status, state);
     }
-    let from = fold(state.profile, BLOCK);
-    let end = from + IMAGE_LENGTH_16K;
-    fill_frame(&memory[from..end], state, frame)
+    fill_frame(video_block(memory, state.profile), state, frame)
 }
 
 // Painted from the block of the memory that video reads.

@@ -9,8 +9,8 @@ ghost use Rattle.video.specs.Answer.{lineAnswer, lineContents};
 ghost use Rattle.video.specs.Cell.{Cell, pixels};
 ghost use Rattle.video.specs.Internal.{blockRam, paintedLine};
 ghost use Rattle.video.specs.Line.{lineCells};
-use crate::address::BLOCK;
 use crate::address::Scanline;
+use crate::address::video_block;
 use crate::answer::Painted;
 use crate::answer::answer;
 use crate::answer::painting_refusal;
@@ -22,9 +22,7 @@ use crate::state::State;
 use machine::CELL_LENGTH;
 use machine::COLUMNS;
 use machine::DONE;
-use machine::IMAGE_LENGTH_16K;
 use machine::LINE_LENGTH;
-use machine::fold;
 use machine::line_refusal;
 
 // The registers that a line leaves, and how many screen bytes and character bytes it used.
@@ -45,9 +43,8 @@ pub fn paint_line(memory: &[u8], state: State, line: usize, output: &mut [u8]) -
         return refused(status, state);
     }
     let before = Registers::at_line_start(wide(state.mode));
-    let from = fold(state.profile, BLOCK);
-    let end = from + IMAGE_LENGTH_16K;
-    let painted = fill_line(&memory[from..end], state.counter, line, before, output);
+    let block = video_block(memory, state.profile);
+    let painted = fill_line(block, state.counter, line, before, output);
     let registers = painted.registers;
     answer(state, registers.mode, painted.screen, painted.character)
 }

@@ -3,22 +3,23 @@
 -- Assumes nothing.
 use Prim.Native.Nat.{ℕ, _<_}
 use mathlib.Core.List.{List}
-use mathlib.Core.Path.{_≡_, sym, ap, _∙_}
+use mathlib.Core.Path.{_≡_, sym, ap, ap₂, _∙_}
 use native.Mathlib.Omega.{arith}
 use lib.ListN.{length}
 use denote.Ref.{now}
 use borrow.Author.Needs.{needs}
+use Rattle.machine.specs.Image.{Image}
 use Rattle.machine.specs.Refusal.{given, lineCheck}
 use Rattle.machine.specs.Sizes.{columns, lines, lineLength}
 use Rattle.machine.proofs.Refusals.{line-passed}
 use Rattle.video.specs.Answer.{lineRefusal, cellsOfLine, lineAnswer, lineContents}
 use Rattle.video.specs.Cell.{Cell, pixels}
-use Rattle.video.specs.Internal.{blockRam, paintedLine}
+use Rattle.video.specs.Internal.{blockOf, blockRam, paintedLine}
 use Rattle.video.specs.Line.{lineCells}
 use Rattle.video.specs.Ram.{Ram}
 use Rattle.video.proofs.Accepted.{Paintable, accepted-painting}
 use Rattle.video.proofs.Answers.{painting-refused, painting-done}
-use Rattle.video.proofs.Block.{block-fits, block, block-sized, line-of-block}
+use Rattle.video.proofs.Block.{block-sized, line-of-block}
 use Rattle.video.proofs.Lines.{cells-length, mode-after, mode-small, line-uses-screen-bytes}
 use Rattle.video.proofs.Readings.{characters-most}
 use Rattle.video.specs.declared.registers.Registers.{Registers}
@@ -60,40 +61,39 @@ module _ (e : tie.Else1) where
   fits : start .args .line < lines
   fits = line-passed 0 (start .args .line) (paintable .rest) .holds
 
--- where the block begins
-abbrev past : tie.After-fold → tie.Else1
+-- the block that was lent
+abbrev past : tie.After-video-block → tie.Else1
 past k = k .before .before .before
 
-part-fill-line-end : tie.Need-part-fill-line-end
-part-fill-line-end c =
-    let a = start (past c) .args in
-    omega (arith, block-fits (now (a .memory)) (a .state) (paintable (past c) .image) (c .fold .result) (c .fold .ensures .0))
+video-block-requires : tie.Need-video-block-requires
+video-block-requires c κs = paintable (c .before .before) .image
 
 fill-line-requires : tie.Need-fill-line-requires
 fill-line-requires c κs =
-    let k = c .before .before in
+    let k = c .before in
     let a = start (past k) .args in
     let known = paintable (past k) in
-    (block-sized (now (a .memory)) (a .state) (known .image) (k .fold .result) (k .fold .ensures .0), (fits (past k), known .lent))
+    (rw (k .video-block .ensures) (block-sized (a .state .profile) (now (a .memory)) (known .image)), (fits (past k), known .lent))
 
 -- the line begins in the state's mode
 module _ (f : tie.After-fill-line) where
-  abbrev folding : tie.After-fold
-  folding = f .before .before .before
+  abbrev lent : tie.After-video-block
+  lent = f .before .before
 
   abbrev entry : tie.Start
-  entry = start (past folding)
+  entry = start (past lent)
 
   abbrev ram : Ram
-  ram =
-      let a = entry .args in
-      blockRam (block (now (a .memory)) (a .state) (paintable (past folding) .image) (folding .fold .result) (folding .fold .ensures .0))
+  ram = let a = entry .args in blockRam (blockOf (a .state .profile) (now (a .memory)))
 
-  carried : folding .before .at-line-start .result .mode ≡ entry .args .state .mode
-  carried = ap (λ (r : Registers). r .mode) (folding .before .at-line-start .ensures) ∙ folding .before .before .wide .ensures
+  carried : lent .before .at-line-start .result .mode ≡ entry .args .state .mode
+  carried = ap (λ (r : Registers). r .mode) (lent .before .at-line-start .ensures) ∙ lent .before .before .wide .ensures
 
   painted-is : let a = entry .args in f .fill-line .result ≡ paintedLine ram (a .state .counter) (a .line) (a .state .mode)
-  painted-is = let a = entry .args in f .fill-line .ensures .0 ∙ ap (paintedLine ram (a .state .counter) (a .line)) carried
+  painted-is =
+      let a = entry .args in
+      f .fill-line .ensures .0
+      ∙ ap₂ (λ (image : Image) (m : ℕ). paintedLine (blockRam image) (a .state .counter) (a .line) m) (lent .video-block .ensures) carried
 
   abbrev read : List Cell
   read = let a = entry .args in lineCells ram (a .state .counter) (a .line) (a .state .mode)
@@ -102,7 +102,7 @@ answer-requires : tie.Need-answer-requires
 answer-requires c κs =
     let f = c .before .before .before in
     let a = entry f .args in
-    let small = mode-small (ram f) (a .line) (a .state .mode) (paintable (past (folding f)) .within .mode) columns in
+    let small = mode-small (ram f) (a .line) (a .state .mode) (paintable (past (lent f)) .within .mode) columns in
     rw (painted-is f)
     (small, (omega (arith, line-uses-screen-bytes (ram f) (a .state .counter) (a .line) (a .state .mode)), omega (arith, characters-most (read f), cells-length (ram f) (a .state .counter) (a .line) (a .state .mode) columns)))
 
@@ -111,11 +111,13 @@ unfolding lineAnswer lineContents
 returns-2 c =
     let f = c .before .before .before .before in
     let a = entry f .args in
-    let k = folding f in
+    let k = lent f in
     let left = painting-done (lineRefusal (now (a .memory)) (a .state) (a .line) (now (a .output))) (a .state) (a .state) (cells (entry f)) (now (a .output)) (accepted (past k)) in
-    let same = line-of-block (now (a .memory)) (a .state) (paintable (past k) .image) (k .fold .result) (k .fold .ensures .0) (a .line) (fits (past k)) in (
+    let same = line-of-block (now (a .memory)) (a .state) (paintable (past k) .image) (a .line) (fits (past k)) in (
       c .answer .ensures ∙ rw (painted-is f) (rw (← mode-after (ram f) (a .state .counter) (a .line) (a .state .mode) columns) (same .0 ∙ left .0)),
-      f .fill-line .ensures .1 ∙ ap (λ (m : ℕ). pixels (lineCells (ram f) (a .state .counter) (a .line) m)) (carried f) ∙ same .1 ∙ left .1,
+      f .fill-line .ensures .1
+          ∙ ap₂ (λ (image : Image) (m : ℕ). pixels (lineCells (blockRam image) (a .state .counter) (a .line) m)) (k .video-block .ensures) (carried f)
+          ∙ same .1 ∙ left .1,
     )
 
 pub paint-line-spec : {M : Type 1} → statement M
@@ -128,11 +130,7 @@ paint-line-spec =
     returns
     (λ c κs. tt)
     (λ c κs. tt)
-    (λ c κs. tt)
-    (λ c. search needs)
-    (λ c. search needs)
-    (λ c. search needs)
-    part-fill-line-end
+    video-block-requires
     fill-line-requires
     answer-requires
     (λ c. search needs)
