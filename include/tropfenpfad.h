@@ -3,9 +3,11 @@
  *
  * Two halves. The video half says where a screen byte stands and paints lines
  * and frames from a RAM image. The bus half says what answers at an address
- * and reads and writes over it. The archive is libtropfenpfad.a (x86-64 Linux);
- * it needs the C library's memcpy and nothing else. `make lib` puts it into
- * target/lib and this header into target/include. The example is compiled so:
+ * and reads and writes over it. Both serve the 48K machine and the 16K machine,
+ * by a profile that the caller hands over. The archive is libtropfenpfad.a
+ * (x86-64 Linux); it needs the C library's memcpy and nothing else. `make lib`
+ * puts it into target/lib and this header into target/include. The example is
+ * compiled so:
  *
  *   cc -std=c11 -Itarget/include host/tropfenpfad/examples/paint.c -Ltarget/lib -ltropfenpfad -o target/paint
  *
@@ -42,12 +44,30 @@ extern "C" {
 #endif
 
 /* ------------------------------------------------------------------------- */
+/* Profiles: the values of `profile`                                         */
+/* ------------------------------------------------------------------------- */
+
+/*
+ * Every call that deals in addresses takes the profile: the painters in the
+ * state, the others as an argument.
+ *
+ * The 16K machine has one block of RAM, mirrored in each 16K block below C000:
+ * 3B80, 7B80 and BB80 are one byte. So in profile 1 every RAM address is
+ * folded, which means taken mod 16,384, for video and bus alike, and a RAM
+ * address that a call gives is the folded one. In profile 0 the folded address
+ * is the address itself.
+ */
+#define TROPFENPFAD_PROFILE_48K 0 /* the 48K machine */
+#define TROPFENPFAD_PROFILE_16K 1 /* the 16K machine; it has no disc controller */
+
+/* ------------------------------------------------------------------------- */
 /* Sizes                                                                     */
 /* ------------------------------------------------------------------------- */
 
-/* Bytes in a memory image: the machine's whole RAM, byte n at address n. ROM
- * and EPROM are not part of it. */
-#define TROPFENPFAD_IMAGE_LENGTH 65536
+/* Bytes in a memory image, by profile: the machine's whole RAM, byte n at the
+ * folded address n. ROM and EPROM are not part of it. */
+#define TROPFENPFAD_IMAGE_LENGTH     65536 /* profile 0, with the 16K that only an overlay shows */
+#define TROPFENPFAD_IMAGE_LENGTH_16K 16384 /* profile 1 */
 
 /* Cells from left to right, six pixels each; columns are 0 to 39. */
 #define TROPFENPFAD_COLUMNS 40
@@ -75,14 +95,16 @@ extern "C" {
  * A refused call has changed nothing that was lent. In its answer the state or
  * the latches are those that were handed in, and all else but the status is 0.
  */
-#define TROPFENPFAD_DONE            0 /* the call was answered */
-#define TROPFENPFAD_REFUSED_MEMORY  1 /* memory_length is not 65,536 */
-#define TROPFENPFAD_REFUSED_OUTPUT  2 /* output is not 240 bytes, or frame not 53,760 */
-#define TROPFENPFAD_REFUSED_MODE    3 /* mode is above 7 */
-#define TROPFENPFAD_REFUSED_COUNTER 4 /* counter is above 31 */
-#define TROPFENPFAD_REFUSED_LINE    5 /* line is above 223 */
-#define TROPFENPFAD_REFUSED_COLUMN  6 /* column is above 39 */
-#define TROPFENPFAD_REFUSED_KIND    7 /* the latches' kind is above 2 */
+#define TROPFENPFAD_DONE                0 /* the call was answered */
+#define TROPFENPFAD_REFUSED_MEMORY      1 /* memory_length is not the profile's: 65,536 or 16,384 */
+#define TROPFENPFAD_REFUSED_OUTPUT      2 /* output is not 240 bytes, or frame not 53,760 */
+#define TROPFENPFAD_REFUSED_MODE        3 /* mode is above 7 */
+#define TROPFENPFAD_REFUSED_COUNTER     4 /* counter is above 31 */
+#define TROPFENPFAD_REFUSED_LINE        5 /* line is above 223 */
+#define TROPFENPFAD_REFUSED_COLUMN      6 /* column is above 39 */
+#define TROPFENPFAD_REFUSED_KIND        7 /* the latches' kind is above 2 */
+#define TROPFENPFAD_REFUSED_PROFILE    12 /* profile is above 1 */
+#define TROPFENPFAD_REFUSED_CONTROLLER 13 /* profile is 1 and the latches' kind is not 0 */
 
 /* ------------------------------------------------------------------------- */
 /* Video                                                                     */
@@ -92,6 +114,7 @@ extern "C" {
 typedef struct {
   uint8_t mode;    /* 0 to 7: bit 2 hires (else text), bit 1 50 Hz (else 60), bit 0 kept, no effect */
   uint8_t counter; /* flash counter, 0 to 31: flashing ink is shown below 16, hidden from 16 on */
+  uint8_t profile; /* TROPFENPFAD_PROFILE_...; no call changes it */
 } tropfenpfad_state;
 
 /* The answer of paint_line and paint_frame. */
@@ -105,10 +128,11 @@ typedef struct {
 /* The answer of screen_address. */
 typedef struct {
   uint8_t status;   /* TROPFENPFAD_DONE or a refusal */
-  uint16_t address; /* where the cell's screen byte stands, A000 to BFDF */
+  uint16_t address; /* where the cell's screen byte stands: A000 to BFDF, folded 2000 to 3FDF */
 } tropfenpfad_address;
 
-/* The state to begin with: mode 2 (text, 50 Hz), counter 0. Refuses nothing. */
+/* The state to begin with: mode 2 (text, 50 Hz), counter 0, profile 0. For the
+ * 16K machine the caller sets the profile. Refuses nothing. */
 tropfenpfad_state tropfenpfad_fresh_state(void);
 
 /*
@@ -117,9 +141,11 @@ tropfenpfad_state tropfenpfad_fresh_state(void);
  *   hires, lines 0 to 199:  A000 + 40 * line + column
  *   all else:               BB80 + 40 * (line / 8) + column
  *
- * Refuses: 3 mode, 5 line, 6 column.
+ * Returns this address, folded in profile 1.
+ * Refuses: 12 profile, 3 mode, 5 line, 6 column.
  */
-tropfenpfad_address tropfenpfad_screen_address(size_t line, size_t column, uint8_t mode);
+tropfenpfad_address tropfenpfad_screen_address(uint8_t profile, size_t line, size_t column,
+                                               uint8_t mode);
 
 /*
  * Paints one line.
@@ -138,19 +164,21 @@ tropfenpfad_address tropfenpfad_screen_address(size_t line, size_t column, uint8
  *   row:             line % 8, or line / 2 % 8 in double height
  *   style:           bit 0 alternate set, bit 1 double height, bit 2 flash
  *
+ * In profile 1 the addresses of screen and character bytes are folded.
+ *
  * With the flash style, ink shows as paper while the counter is 16 or more.
  * Last, bit 7 of the screen byte turns each colour c into 7 - c, on attribute
  * cells too.
  *
- *   memory, memory_length   the RAM image, 65,536 bytes; only read
- *   state                   mode and counter before the line
+ *   memory, memory_length   the RAM image, of the profile's length; only read
+ *   state                   mode and counter before the line, and the profile
  *   line                    0 to 223
  *   output, output_length   240 bytes, all of them written
  *
- * Returns the state after the line (its mode; the counter stays) and the
+ * Returns the state after the line (its mode; counter and profile stay) and the
  * numbers of screen and character bytes used. Attribute cells and hires cells
  * on lines 0 to 199 use no character byte.
- * Refuses: 1 memory, 2 output, 3 mode, 4 counter, 5 line.
+ * Refuses: 12 profile, 1 memory, 2 output, 3 mode, 4 counter, 5 line.
  */
 tropfenpfad_painted tropfenpfad_paint_line(const uint8_t *memory, size_t memory_length,
                                            tropfenpfad_state state, size_t line,
@@ -160,15 +188,15 @@ tropfenpfad_painted tropfenpfad_paint_line(const uint8_t *memory, size_t memory_
  * Paints one frame: lines 0 to 223 in order as paint_line does, each from
  * 240 * line on, the mode handed from line to line.
  *
- *   memory, memory_length   the RAM image, 65,536 bytes; only read
- *   state                   mode and counter before the frame
+ *   memory, memory_length   the RAM image, of the profile's length; only read
+ *   state                   mode and counter before the frame, and the profile
  *   frame, frame_length     53,760 bytes, all of them written
  *
  * Returns the state to hand to the next frame, which is the mode that the last
- * line left and the counter plus one, 0 after 31, and the sums of the lines'
- * counts. Hand that state on: a frame that is painted from the fresh state
- * although the one before it ended in hires has other pixels.
- * Refuses: 1 memory, 2 output, 3 mode, 4 counter.
+ * line left, the counter plus one, 0 after 31, and the same profile, and the
+ * sums of the lines' counts. Hand that state on: a frame that is painted from
+ * the fresh state although the one before it ended in hires has other pixels.
+ * Refuses: 12 profile, 1 memory, 2 output, 3 mode, 4 counter.
  */
 tropfenpfad_painted tropfenpfad_paint_frame(const uint8_t *memory, size_t memory_length,
                                             tropfenpfad_state state,
@@ -178,13 +206,13 @@ tropfenpfad_painted tropfenpfad_paint_frame(const uint8_t *memory, size_t memory
 /* Bus                                                                       */
 /* ------------------------------------------------------------------------- */
 
-/* Controller kinds: the values of `kind`. */
+/* Controller kinds: the values of `kind`. Profile 1 goes with kind 0 alone. */
 #define TROPFENPFAD_KIND_NONE      0 /* no controller: C000 to FFFF is the BASIC ROM */
 #define TROPFENPFAD_KIND_MICRODISC 1 /* one latch, at 0314 */
 #define TROPFENPFAD_KIND_JASMIN    2 /* two latches, at 03FA and 03FB */
 
 /* Targets: the values of `target`, each with the meaning of its `number`. */
-#define TROPFENPFAD_TARGET_RAM         0 /* RAM below C000; number: the address */
+#define TROPFENPFAD_TARGET_RAM         0 /* RAM below C000; number: the folded address */
 #define TROPFENPFAD_TARGET_VIA         1 /* the 6522; number: its register, 0 to 15 */
 #define TROPFENPFAD_TARGET_CONTROLLER  2 /* disc controller; number: address - 0300 */
 #define TROPFENPFAD_TARGET_BASIC_ROM   3 /* BASIC ROM; number: address - C000 */
@@ -194,7 +222,7 @@ tropfenpfad_painted tropfenpfad_paint_frame(const uint8_t *memory, size_t memory
 
 /* Which controller is fitted and what was last written to its latches. */
 typedef struct {
-  uint8_t kind;   /* TROPFENPFAD_KIND_...; above 2 is refused where it is used */
+  uint8_t kind;   /* TROPFENPFAD_KIND_...; one that is wrong is refused where it is used */
   uint8_t first;  /* Microdisc: written at 0314; Jasmin: written at 03FA; any byte */
   uint8_t second; /* Jasmin: written at 03FB; any byte */
 } tropfenpfad_latches;
@@ -225,7 +253,8 @@ typedef struct {
 
 /* The latches to begin with: kind 0 (no controller), both latch bytes 0. The
  * caller sets the kind of the controller that is fitted; the calls that use
- * the record refuse a kind above 2. Refuses nothing itself. */
+ * the record refuse a kind above 2, and in profile 1 one above 0. Refuses
+ * nothing itself. */
 tropfenpfad_latches tropfenpfad_fresh_latches(void);
 
 /*
@@ -243,39 +272,48 @@ tropfenpfad_latches tropfenpfad_fresh_latches(void);
  *            Jasmin     bit 0 of first set: overlay RAM; clear: boot EPROM if
  *                       bit 0 of second is set, else BASIC ROM
  *
- * Returns the target and its number. Refuses: 7 kind.
+ * The address is taken apart as it is, before it is folded: in profile 1 page 3
+ * and the ROM are not mirrored, and only RAM's number is folded. 4300 and 8300
+ * are RAM with the number 0300, the byte behind page 3, which no access at 0300
+ * itself reaches.
+ *
+ * Returns the target and its number.
+ * Refuses: 12 profile, 7 kind, 13 controller.
  */
-tropfenpfad_decoded tropfenpfad_decode(tropfenpfad_latches latches, uint16_t address);
+tropfenpfad_decoded tropfenpfad_decode(uint8_t profile, tropfenpfad_latches latches,
+                                       uint16_t address);
 
 /*
  * Reads one byte over the bus; changes nothing.
  *
- *   memory, memory_length   the RAM image, 65,536 bytes; only read
+ *   memory, memory_length   the RAM image, of the profile's length; only read
+ *   profile                 TROPFENPFAD_PROFILE_...
  *   latches                 the latches in force
  *   address                 any
  *
  * Returns the target and its number as decode does, and the byte at that
  * number for RAM and overlay RAM, 0 for every other target.
- * Refuses: 1 memory, 7 kind.
+ * Refuses: 12 profile, 1 memory, 7 kind, 13 controller.
  */
-tropfenpfad_access tropfenpfad_read(const uint8_t *memory, size_t memory_length,
+tropfenpfad_access tropfenpfad_read(const uint8_t *memory, size_t memory_length, uint8_t profile,
                                     tropfenpfad_latches latches, uint16_t address);
 
 /*
  * Writes one byte over the bus, latches by value.
  *
- *   memory, memory_length   the RAM image, 65,536 bytes; one byte is stored at
- *                           the target's number for RAM and overlay RAM, none
- *                           for any other target
+ *   memory, memory_length   the RAM image, of the profile's length; one byte is
+ *                           stored at the target's number for RAM and overlay
+ *                           RAM, none for any other target
+ *   profile                 TROPFENPFAD_PROFILE_...
  *   latches                 the latches in force for this access
  *   address, byte           any
  *
  * Returns the target and its number as decode does, byte 0, and the latches
  * for the next access. These are the ones handed in, but for a write to a
  * latch: Microdisc at 0314 sets first, Jasmin at 03FA first and at 03FB second.
- * Refuses: 1 memory, 7 kind.
+ * Refuses: 12 profile, 1 memory, 7 kind, 13 controller.
  */
-tropfenpfad_written tropfenpfad_write(uint8_t *memory, size_t memory_length,
+tropfenpfad_written tropfenpfad_write(uint8_t *memory, size_t memory_length, uint8_t profile,
                                       tropfenpfad_latches latches,
                                       uint16_t address, uint8_t byte);
 
@@ -286,10 +324,11 @@ tropfenpfad_written tropfenpfad_write(uint8_t *memory, size_t memory_length,
  *
  *   latches                 one record, never null, apart from memory
  *
- * Returns the target, its number and byte 0. Refuses: 1 memory, 7 kind.
+ * Returns the target, its number and byte 0.
+ * Refuses: 12 profile, 1 memory, 7 kind, 13 controller.
  */
 tropfenpfad_access tropfenpfad_write_in_place(uint8_t *memory, size_t memory_length,
-                                              tropfenpfad_latches *latches,
+                                              uint8_t profile, tropfenpfad_latches *latches,
                                               uint16_t address, uint8_t byte);
 
 #ifdef __cplusplus

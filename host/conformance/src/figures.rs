@@ -1,16 +1,19 @@
-//! The figures that the proved program `figures` writes for decode and for its generated images,
-//! made here by the model alone.
+//! All figures that the proved program `figures` writes, made here by the models alone.
 
 use std::fmt::Write;
 
-use tropfenpfad_sys::{Latches, State, FRAME_LENGTH, IMAGE_LENGTH};
+use tropfenpfad_sys::{
+    Latches, Painted, State, FRAME_LENGTH, IMAGE_LENGTH, IMAGE_LENGTH_16K, LINE_LENGTH,
+    PROFILE_16K, PROFILE_48K,
+};
 
+use crate::inputs::image_length;
 use crate::model::{Bus, Video};
 use crate::random::step;
 
 /// Where the generator and the digest start.
 const START: u64 = 0x9E37_79B9_7F4A_7C15;
-/// Generated images.
+/// Generated images of each profile.
 const IMAGES: u64 = 256;
 /// Their flash counters: on both sides of each change of phase.
 const COUNTERS: [u8; 4] = [0, 15, 16, 31];
@@ -32,41 +35,102 @@ const LATCHES: [(u8, u8, u8); 15] = [
     (2, 255, 254),
     (2, 254, 255),
 ];
+/// Those that the 16K machine takes.
+const LATCHES_16K: [(u8, u8, u8); 2] = [LATCHES[0], LATCHES[1]];
+/// Lengths of memory, on both sides of the right one.
+const MEMORIES: [usize; 4] = [0, IMAGE_LENGTH - 1, IMAGE_LENGTH, IMAGE_LENGTH + 1];
+/// The same for the 16K machine, and each length with a profile that it does not belong to.
+const PROFILE_MEMORIES: [(u8, usize); 7] = [
+    (PROFILE_16K, 0),
+    (PROFILE_16K, IMAGE_LENGTH_16K - 1),
+    (PROFILE_16K, IMAGE_LENGTH_16K),
+    (PROFILE_16K, IMAGE_LENGTH_16K + 1),
+    (PROFILE_16K, IMAGE_LENGTH),
+    (PROFILE_48K, IMAGE_LENGTH_16K),
+    (2, IMAGE_LENGTH),
+];
 
-/// All lines: decode first, then the images. Each ends with a line feed.
+/// All lines, each ended by a line feed: limits, decodes and images of the 48K machine, then of the
+/// 16K machine, whose lines begin with the profile.
 pub fn lines() -> String {
     let (video, bus) = (Video::new(), Bus::new());
     let mut text = String::new();
-    for (kind, first, second) in LATCHES {
-        let latches = Latches {
-            kind,
-            first,
-            second,
-        };
-        text += &decode_line(&bus, latches);
+    for line in [223, 224] {
+        text += &line_line(&video, line);
     }
-    let mut memory = vec![0; IMAGE_LENGTH];
-    let mut frame = vec![0; FRAME_LENGTH];
+    for counter in [31, 32] {
+        text += &counter_line(&video, counter);
+    }
+    for length in MEMORIES {
+        text += &memory_line(&video, PROFILE_48K, length);
+    }
+    for latches in LATCHES {
+        text += &decode_line(&bus, PROFILE_48K, latches);
+    }
     for image in 0..IMAGES {
-        text += &image_line(&video, image, &mut memory, &mut frame);
+        text += &image_line(&video, PROFILE_48K, image);
+    }
+    for (profile, length) in PROFILE_MEMORIES {
+        text += &format!("profile {profile} {}", memory_line(&video, profile, length));
+    }
+    for latches in LATCHES_16K {
+        text += &format!(
+            "profile {PROFILE_16K} {}",
+            decode_line(&bus, PROFILE_16K, latches)
+        );
+    }
+    for image in 0..IMAGES {
+        text += &format!(
+            "profile {PROFILE_16K} {}",
+            image_line(&video, PROFILE_16K, image)
+        );
     }
     text
 }
 
-fn decode_line(model: &Bus, latches: Latches) -> String {
+/// Paints one line of an image of zeros from the fresh state.
+fn line_line(model: &Video, line: usize) -> String {
+    let memory = vec![0; IMAGE_LENGTH];
+    let painted = model.paint_line(&memory, model.fresh_state(), line, &mut [0; LINE_LENGTH]);
+    let Painted { status, screen, .. } = painted;
+    format!("line {line}: status {status} screen {screen}\n")
+}
+
+/// Paints an image of zeros from the fresh state but for these.
+fn zeros(model: &Video, profile: u8, counter: u8, length: usize) -> Painted {
+    let state = State {
+        counter,
+        profile,
+        ..model.fresh_state()
+    };
+    model.paint_frame(&vec![0; length], state, &mut vec![0; FRAME_LENGTH])
+}
+
+fn counter_line(model: &Video, counter: u8) -> String {
+    let painted = zeros(model, PROFILE_48K, counter, IMAGE_LENGTH);
+    let (status, after) = (painted.status, painted.state.counter);
+    format!("counter {counter}: status {status} counter {after}\n")
+}
+
+fn memory_line(model: &Video, profile: u8, length: usize) -> String {
+    let status = zeros(model, profile, 0, length).status;
+    format!("memory {length}: status {status}\n")
+}
+
+fn decode_line(model: &Bus, profile: u8, (kind, first, second): (u8, u8, u8)) -> String {
+    let latches = Latches {
+        kind,
+        first,
+        second,
+    };
     let mut counts = [0; 7];
     let mut digest = Digest::new();
     for address in 0..=u16::MAX {
-        let answer = model.decode(latches, address);
+        let answer = model.decode(profile, latches, address);
         let [low, high] = answer.number.to_le_bytes();
         counts[usize::from(answer.target)] += 1;
         digest.take(&[answer.target, low, high]);
     }
-    let Latches {
-        kind,
-        first,
-        second,
-    } = latches;
     let mut text = format!("decode kind {kind} first {first} second {second}:");
     for (target, count) in counts.iter().enumerate() {
         write!(text, " {target} {count}").expect("a string takes all");
@@ -74,16 +138,18 @@ fn decode_line(model: &Bus, latches: Latches) -> String {
     text + &format!(" digest {:016x}\n", digest.0)
 }
 
-fn image_line(model: &Video, image: u64, memory: &mut [u8], frame: &mut [u8]) -> String {
+fn image_line(model: &Video, profile: u8, image: u64) -> String {
     let kind = image % 4;
     let state = State {
         mode: (image / 4 % 8) as u8,
         counter: COUNTERS[(image / 32 % 4) as usize],
+        profile,
     };
-    generate(image, memory);
-    let painted = model.paint_frame(memory, state, frame);
+    let memory = generate(image, image_length(profile));
+    let mut frame = vec![0; FRAME_LENGTH];
+    let painted = model.paint_frame(&memory, state, &mut frame);
     let mut digest = Digest::new();
-    digest.take(frame);
+    digest.take(&frame);
     format!(
         "image {image} kind {kind} mode {} counter {}: status {} mode {} counter {} \
          screen {} character {} digest {:016x}\n",
@@ -98,12 +164,13 @@ fn image_line(model: &Video, image: u64, memory: &mut [u8], frame: &mut [u8]) ->
     )
 }
 
-fn generate(image: u64, memory: &mut [u8]) {
+fn generate(image: u64, length: usize) -> Vec<u8> {
     let mut x = START + image;
-    for place in memory {
+    let next = |_| {
         x = step(x);
-        *place = shaped(image % 4, (x >> 32) as u8, (x >> 40) as u8 % 16);
-    }
+        shaped(image % 4, (x >> 32) as u8, (x >> 40) as u8 % 16)
+    };
+    (0..length).map(next).collect()
 }
 
 /// The byte of an image: 0 random, 1 attributes, 2 text, 3 modes.

@@ -5,10 +5,8 @@ use std::ffi::{c_int, c_void};
 use std::io::Error;
 use std::ptr;
 
-use tropfenpfad_sys::IMAGE_LENGTH;
-
 use crate::images::{self, Kind};
-use crate::inputs::random_bytes;
+use crate::inputs::{random_bytes, PROFILES};
 
 const PAGE: usize = 4096;
 const NO_ACCESS: c_int = 0;
@@ -31,17 +29,6 @@ extern "C" {
     fn access(path: *const c_void, mode: c_int) -> c_int;
 }
 
-/// Lengths of memory to lend, the right one first.
-const MEMORIES: [usize; 7] = [
-    IMAGE_LENGTH,
-    0,
-    1,
-    4096,
-    IMAGE_LENGTH - 1,
-    IMAGE_LENGTH + 1,
-    IMAGE_LENGTH + 4096,
-];
-
 /// What bytes beside a buffer hold.
 const BESIDE: u8 = 0xA5;
 
@@ -54,12 +41,17 @@ pub enum Against {
 
 pub const SIDES: [Against; 2] = [Against::End, Against::Start];
 
-/// Every memory length against both sides, with the bytes of an image as far as they go.
+/// Memories of each profile's length, and shorter and longer ones, against both sides, with the
+/// bytes of an image as far as they go.
 pub fn memories(kind: Kind) -> impl Iterator<Item = Lent> {
-    let image = images::image(kind, 1);
-    MEMORIES.into_iter().flat_map(move |length| {
-        let content: Vec<u8> = image.iter().cycle().take(length).copied().collect();
-        SIDES.map(|side| Lent::new(side, content.clone()))
+    PROFILES.into_iter().flat_map(move |profile| {
+        let image = images::image(profile, kind, 1);
+        let right = image.len();
+        let lengths = [right, 0, 1, 4096, right - 1, right + 1, right + 4096];
+        lengths.into_iter().flat_map(move |length| {
+            let content: Vec<u8> = image.iter().cycle().take(length).copied().collect();
+            SIDES.map(|side| Lent::new(side, content.clone()))
+        })
     })
 }
 

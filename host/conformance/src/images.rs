@@ -1,7 +1,8 @@
 //! Generated memory images, ten kinds, each made from a seed.
 
-use tropfenpfad_sys::IMAGE_LENGTH;
+use std::ops::Range;
 
+use crate::inputs::image_length;
 use crate::random::Xorshift;
 
 /// What an image is rich in.
@@ -50,7 +51,10 @@ pub const REGION_EDGES: [usize; 8] = [
     0x9800, 0xA000, 0xB400, 0xBB80, 0xBC00, 0xBF40, 0xBF68, 0xBFE0,
 ];
 
-/// Makes the image of a kind and a seed in `memory`, all of it.
+/// Where a 48K image has the bytes of the 16K image that shows the same.
+pub const VIDEO_BLOCK: Range<usize> = 0x8000..0xC000;
+
+/// Makes the image of a kind and a seed in `memory`, all of it; its length is that of a profile.
 pub fn generate(kind: Kind, seed: u64, memory: &mut [u8]) {
     let mut generator = Xorshift::new(seed << 4 | kind as u64);
     if kind == Kind::Edges {
@@ -65,8 +69,8 @@ pub fn generate(kind: Kind, seed: u64, memory: &mut [u8]) {
 }
 
 /// A new image.
-pub fn image(kind: Kind, seed: u64) -> Vec<u8> {
-    let mut memory = vec![0; IMAGE_LENGTH];
+pub fn image(profile: u8, kind: Kind, seed: u64) -> Vec<u8> {
+    let mut memory = vec![0; image_length(profile)];
     generate(kind, seed, &mut memory);
     memory
 }
@@ -98,6 +102,7 @@ fn edges(generator: &mut Xorshift, memory: &mut [u8]) {
     let byte = generator.byte();
     memory.fill(generator.pick(&[0x00, 0x41, 0x7F, 0xC5, 0x1C, byte]));
     for edge in REGION_EDGES {
-        generator.fill(&mut memory[edge - 8..edge + 8]);
+        let place = edge % memory.len();
+        generator.fill(&mut memory[place - 8..place + 8]);
     }
 }

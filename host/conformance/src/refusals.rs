@@ -6,7 +6,7 @@
 use std::collections::{BTreeMap, BTreeSet};
 
 use tropfenpfad::Refusal;
-use tropfenpfad_sys::{Latches, State, FRAME_LENGTH, IMAGE_LENGTH, LINE_LENGTH};
+use tropfenpfad_sys::{Latches, State, FRAME_LENGTH, IMAGE_LENGTH, IMAGE_LENGTH_16K, LINE_LENGTH};
 
 use crate::inputs::random_bytes;
 
@@ -24,18 +24,23 @@ impl<T: Copy> Values<T> {
     }
 }
 
-pub const MEMORIES: Values<usize> = Values {
-    right: &[IMAGE_LENGTH],
-    wrong: &[
-        0,
-        1,
-        LINE_LENGTH,
-        FRAME_LENGTH,
-        IMAGE_LENGTH - 1,
-        IMAGE_LENGTH + 1,
-        2 * IMAGE_LENGTH,
-    ],
+pub const PROFILES: Values<u8> = Values {
+    right: &[0, 1],
+    wrong: &[2, 3, 128, 255],
 };
+const MEMORIES: [usize; 11] = [
+    0,
+    1,
+    LINE_LENGTH,
+    IMAGE_LENGTH_16K - 1,
+    IMAGE_LENGTH_16K,
+    IMAGE_LENGTH_16K + 1,
+    FRAME_LENGTH,
+    IMAGE_LENGTH - 1,
+    IMAGE_LENGTH,
+    IMAGE_LENGTH + 1,
+    2 * IMAGE_LENGTH,
+];
 pub const LINE_OUTPUTS: Values<usize> = Values {
     right: &[LINE_LENGTH],
     wrong: &[
@@ -82,32 +87,68 @@ pub const KINDS: Values<u8> = Values {
 };
 const LATCH_BYTES: [u8; 4] = [0x00, 0x01, 0x82, 0xFF];
 
+/// Numbers of refusals that never apply together: 12 is for a profile above 1, 13 for profile 1.
+const APART: [(u8, u8); 1] = [(12, 13)];
+
 /// Random bytes to lend, of the greatest length that is handed over.
 pub fn lent_bytes() -> Vec<u8> {
     random_bytes(7, 2 * IMAGE_LENGTH)
 }
 
-/// States, and whether their mode and their counter are wrong.
-pub fn states() -> impl Iterator<Item = (State, [bool; 2])> {
-    MODES.each().flat_map(|(mode, bad_mode)| {
-        COUNTERS
-            .each()
-            .map(move |(counter, bad_counter)| (State { mode, counter }, [bad_mode, bad_counter]))
+/// Lengths of memory, and whether they are wrong. A wrong profile has no length of its own: with
+/// it those of both others are no second fault.
+pub fn memories(profile: u8) -> impl Iterator<Item = (usize, bool)> {
+    let right: &[usize] = match profile {
+        0 => &[IMAGE_LENGTH],
+        1 => &[IMAGE_LENGTH_16K],
+        _ => &[IMAGE_LENGTH, IMAGE_LENGTH_16K],
+    };
+    MEMORIES
+        .map(|length| (length, !right.contains(&length)))
+        .into_iter()
+}
+
+/// What is due for a profile that is handed over with the memory of a right one.
+pub fn status_with_memory_of(right: u8, profile: u8) -> u8 {
+    match profile {
+        0 | 1 => u8::from(profile != right),
+        _ => 12,
+    }
+}
+
+/// States, and whether their profile, their mode and their counter are wrong.
+pub fn states() -> impl Iterator<Item = (State, [bool; 3])> {
+    PROFILES.each().flat_map(|(profile, bad_profile)| {
+        MODES.each().flat_map(move |(mode, bad_mode)| {
+            COUNTERS.each().map(move |(counter, bad_counter)| {
+                let state = State {
+                    mode,
+                    counter,
+                    profile,
+                };
+                (state, [bad_profile, bad_mode, bad_counter])
+            })
+        })
     })
 }
 
-/// Latch records, and whether their kind is wrong.
-pub fn latches() -> impl Iterator<Item = (Latches, bool)> {
-    KINDS.each().flat_map(|(kind, wrong)| {
-        LATCH_BYTES.into_iter().flat_map(move |first| {
-            LATCH_BYTES.map(move |second| {
-                let latches = Latches {
-                    kind,
-                    first,
-                    second,
-                };
-                (latches, wrong)
-            })
+/// Profiles with latch records, and whether the profile, the kind, and the kind in this profile
+/// are wrong.
+pub fn boards() -> impl Iterator<Item = (u8, Latches, [bool; 3])> {
+    PROFILES.each().flat_map(|(profile, bad_profile)| {
+        KINDS.each().flat_map(move |(kind, bad_kind)| {
+            let wrong = [bad_profile, bad_kind, profile == 1 && kind != 0];
+            latches_of(kind).map(move |latches| (profile, latches, wrong))
+        })
+    })
+}
+
+fn latches_of(kind: u8) -> impl Iterator<Item = Latches> {
+    LATCH_BYTES.into_iter().flat_map(move |first| {
+        LATCH_BYTES.map(move |second| Latches {
+            kind,
+            first,
+            second,
         })
     })
 }
@@ -129,8 +170,8 @@ pub struct Tally {
     calls: usize,
     refused: usize,
     numbers: BTreeMap<u8, usize>,
-    /// How many refusals the entry point lists.
-    listed: usize,
+    /// The numbers that the entry point lists.
+    listed: Vec<u8>,
     /// Places in that list of two refusals that applied together, and no third one with them.
     pairs: BTreeSet<(usize, usize)>,
 }
@@ -147,7 +188,7 @@ impl Tally {
         if let [first, second] = places[..] {
             self.pairs.insert((first, second));
         }
-        self.listed = refusals.len();
+        self.listed = refusals.iter().map(|&(number, _)| number).collect();
         places.first().map_or(0, |&place| refusals[place].0)
     }
 
@@ -162,7 +203,7 @@ impl Tally {
     }
 
     /// Prints what was counted, and fails if some two refusals of the list never applied together,
-    /// since then nothing has shown which of them comes first.
+    /// since then nothing has shown which of them comes first, or if two did that never can.
     #[track_caller]
     pub fn finish(&self, entry: &str) {
         println!(
@@ -172,7 +213,14 @@ impl Tally {
             self.numbers,
             self.pairs.len()
         );
-        let all = self.listed * self.listed.saturating_sub(1) / 2;
-        assert_eq!(self.pairs.len(), all, "{entry}: pairs of bad inputs");
+        for (second, after) in self.listed.iter().enumerate() {
+            for (first, before) in self.listed[..second].iter().enumerate() {
+                assert_eq!(
+                    self.pairs.contains(&(first, second)),
+                    !APART.contains(&(*before, *after)),
+                    "{entry}: refusals {before} and {after} together"
+                );
+            }
+        }
     }
 }

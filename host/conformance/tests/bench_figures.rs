@@ -1,8 +1,9 @@
 //! The bench figures of the rules, asked of the library.
 
 use tropfenpfad::{
-    decode, fresh_state, paint_frame, paint_line, screen_address, Latches, Refusal, State, Target,
-    FRAME_LENGTH, IMAGE_LENGTH, KIND_MICRODISC, LINE_LENGTH,
+    decode, fresh_latches, fresh_state, paint_frame, paint_line, screen_address, Latches, Refusal,
+    State, Target, FRAME_LENGTH, IMAGE_LENGTH, KIND_MICRODISC, LINE_LENGTH, PROFILE_16K,
+    PROFILE_48K,
 };
 
 const TEXT: u8 = 2;
@@ -24,17 +25,30 @@ fn cell(memory: &[u8], state: State, line: usize, column: usize) -> [u8; 6] {
     output[6 * column..6 * column + 6].try_into().unwrap()
 }
 
+/// A state of the 48K machine.
 fn state(mode: u8, counter: u8) -> State {
-    State { mode, counter }
+    State {
+        mode,
+        counter,
+        profile: PROFILE_48K,
+    }
 }
 
 #[test]
 fn a_screen_address_off() {
-    assert_eq!(screen_address(0, 0, TEXT), Ok(0xBB80));
-    assert_eq!(screen_address(223, 39, TEXT), Ok(0xBFDF));
-    assert_eq!(screen_address(199, 39, HIRES), Ok(0xBF3F));
-    assert_eq!(screen_address(200, 0, HIRES), Ok(0xBF68));
-    println!("screen addresses: 4 figures compared");
+    let figures = [
+        (0, 0, TEXT, 0xBB80),
+        (223, 39, TEXT, 0xBFDF),
+        (199, 39, HIRES, 0xBF3F),
+        (200, 0, HIRES, 0xBF68),
+    ];
+    for (line, column, mode, address) in figures {
+        let given = screen_address(PROFILE_48K, line, column, mode);
+        assert_eq!(given, Ok(address));
+        let given = screen_address(PROFILE_16K, line, column, mode);
+        assert_eq!(given, Ok(address - 0x8000), "BB80 is 3B80");
+    }
+    println!("screen addresses: 4 figures compared in both profiles");
 }
 
 #[test]
@@ -100,12 +114,21 @@ fn a_microdisc_latch_that_selects_otherwise() {
             first,
             second: 0,
         };
-        decode(latches, 0xC000).unwrap().target
+        decode(PROFILE_48K, latches, 0xC000).unwrap().target
     };
     assert_eq!(selected(0xFD), Target::OverlayRam);
     assert_eq!(selected(0x00), Target::BootEprom);
     assert_eq!(selected(0x02), Target::BasicRom);
     println!("Microdisc latch: 3 decodes compared");
+}
+
+#[test]
+fn a_16k_machine_without_ram_at_4300() {
+    let place = decode(PROFILE_16K, fresh_latches(), 0x4300).unwrap();
+    assert_eq!((place.target, place.number), (Target::Ram, 0x0300));
+    let place = decode(PROFILE_16K, fresh_latches(), 0x0300).unwrap();
+    assert_eq!((place.target, place.number), (Target::Via, 0));
+    println!("the 16K machine: 2 decodes compared");
 }
 
 #[test]
@@ -120,11 +143,27 @@ fn a_limit_off() {
     assert_eq!(last.state.counter, 0);
     let past = paint_frame(&memory, state(TEXT, 32), &mut frame);
     assert_eq!(past, Err(Refusal::Counter));
-    for length in [0, 65_535, 65_537] {
-        let refused = paint_frame(&vec![0; length], fresh_state(), &mut frame);
-        assert_eq!(refused, Err(Refusal::Memory));
+    let lengths = [
+        (0, 0, Err(Refusal::Memory)),
+        (0, 65_535, Err(Refusal::Memory)),
+        (0, 65_537, Err(Refusal::Memory)),
+        (0, 16_384, Err(Refusal::Memory)),
+        (1, 0, Err(Refusal::Memory)),
+        (1, 16_383, Err(Refusal::Memory)),
+        (1, 16_384, Ok(())),
+        (1, 16_385, Err(Refusal::Memory)),
+        (1, 65_536, Err(Refusal::Memory)),
+        (2, 65_536, Err(Refusal::Profile)),
+    ];
+    for (profile, length, expected) in lengths {
+        let state = State {
+            profile,
+            ..fresh_state()
+        };
+        let given = paint_frame(&vec![0; length], state, &mut frame).map(|_| ());
+        assert_eq!(given, expected, "profile {profile}, {length} bytes");
     }
-    println!("limits: 2 paintings and 5 bad inputs compared");
+    println!("limits: 3 paintings and 11 bad inputs compared");
 }
 
 #[test]

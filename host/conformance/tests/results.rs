@@ -2,17 +2,23 @@
 
 use tropfenpfad::Refusal;
 use tropfenpfad_conformance::inputs::fresh_of_kind;
-use tropfenpfad_sys::{State, FRAME_LENGTH, IMAGE_LENGTH};
+use tropfenpfad_sys::{
+    State, FRAME_LENGTH, IMAGE_LENGTH, IMAGE_LENGTH_16K, KIND_MICRODISC, PROFILE_16K, PROFILE_48K,
+};
 
 #[test]
 fn a_result_that_hides_the_number() {
     let state = tropfenpfad::fresh_state();
-    let latches = fresh_of_kind(3);
+    let [kind, controller] = [3, KIND_MICRODISC].map(fresh_of_kind);
     let mut memory = vec![0; IMAGE_LENGTH];
     let mut frame = vec![0; FRAME_LENGTH];
     let mode = State { mode: 8, ..state };
     let counter = State {
         counter: 32,
+        ..state
+    };
+    let profile = State {
+        profile: 2,
         ..state
     };
     let given = [
@@ -21,8 +27,10 @@ fn a_result_that_hides_the_number() {
         tropfenpfad::paint_frame(&memory, mode, &mut frame).map(|_| ()),
         tropfenpfad::paint_frame(&memory, counter, &mut frame).map(|_| ()),
         tropfenpfad::paint_line(&memory, state, 224, &mut frame[..240]).map(|_| ()),
-        tropfenpfad::screen_address(0, 40, 2).map(|_| ()),
-        tropfenpfad::write(&mut memory, latches, 0, 0).map(|_| ()),
+        tropfenpfad::screen_address(PROFILE_48K, 0, 40, 2).map(|_| ()),
+        tropfenpfad::write(&mut memory, PROFILE_48K, kind, 0, 0).map(|_| ()),
+        tropfenpfad::paint_frame(&memory, profile, &mut frame).map(|_| ()),
+        tropfenpfad::read(&memory[..IMAGE_LENGTH_16K], PROFILE_16K, controller, 0).map(|_| ()),
     ];
     assert_eq!(given.len(), Refusal::ALL.len());
     for (result, refusal) in given.into_iter().zip(Refusal::ALL) {

@@ -5,32 +5,26 @@ use tropfenpfad_conformance::files;
 use tropfenpfad_conformance::model::Video;
 use tropfenpfad_sys::{FRAME_LENGTH, LINE_LENGTH};
 
-/// Says where the two part, line by line from the end.
+/// Says where the two part, line by line.
 fn first_difference(stored: &str, made: &str) -> String {
-    let stored: Vec<&str> = stored.lines().collect();
-    let made: Vec<&str> = made.lines().collect();
-    let skipped = stored.len().saturating_sub(made.len());
-    let pairs = stored[skipped..].iter().zip(&made);
-    match pairs.enumerate().find(|(_, (stored, made))| stored != made) {
-        Some((line, (stored, made))) => {
-            format!(
-                "line {}: stored {stored:?}, made {made:?}",
-                skipped + line + 1
-            )
-        }
-        None => format!("{} lines stored, {} made", stored.len(), made.len()),
+    let pairs = stored.lines().zip(made.lines());
+    match (1..).zip(pairs).find(|(_, (stored, made))| stored != made) {
+        Some((line, (stored, made))) => format!("line {line}: stored {stored:?}, made {made:?}"),
+        None => format!(
+            "{} lines stored, {} made",
+            stored.lines().count(),
+            made.lines().count()
+        ),
     }
 }
 
 #[test]
 fn stored_figures_that_are_stale() {
     let made = figures::lines();
-    assert_eq!(made.lines().count(), 15 + 256);
+    assert_eq!(made.lines().count(), 8 + 15 + 256 + 7 + 2 + 256);
     let stored = files::text("crates/figures/stdout");
-    let others = stored.strip_suffix(&made);
-    let apart = others.is_some_and(|others| others.is_empty() || others.ends_with('\n'));
-    assert!(apart, "{}", first_difference(&stored, &made));
-    println!("figures: 256 paintings and 15 times 65,536 decodes compared");
+    assert!(stored == made, "{}", first_difference(&stored, &made));
+    println!("figures: 15 limits, 256 paintings in each profile, 17 times 65,536 decodes compared");
 }
 
 /// The listing of an image, as the model paints it from the fresh state.

@@ -3,11 +3,23 @@
 //! there.
 
 // ----------------------------------------------------------------------------
+// Profiles
+// ----------------------------------------------------------------------------
+
+/// The 48K machine.
+pub const PROFILE_48K: u8 = 0;
+/// The 16K machine: its RAM is mirrored in each 16K block below C000, so that a RAM address is
+/// folded, taken mod 16,384. It has no disc controller.
+pub const PROFILE_16K: u8 = 1;
+
+// ----------------------------------------------------------------------------
 // Sizes
 // ----------------------------------------------------------------------------
 
-/// Bytes in a memory image: the machine's whole RAM, byte n at address n.
+/// Bytes in a memory image of the 48K machine: its whole RAM, byte n at address n.
 pub const IMAGE_LENGTH: usize = 65_536;
+/// Bytes in a memory image of the 16K machine: its whole RAM, byte n at the folded address n.
+pub const IMAGE_LENGTH_16K: usize = 16_384;
 
 /// Cells in a line; columns are 0 to 39.
 pub const COLUMNS: usize = 40;
@@ -28,7 +40,7 @@ pub const FRAME_LENGTH: usize = 53_760;
 
 /// The call was answered.
 pub const DONE: u8 = 0;
-/// The memory image has another length.
+/// The memory image has not the profile's length.
 pub const REFUSED_MEMORY: u8 = 1;
 /// The lent output has another length.
 pub const REFUSED_OUTPUT: u8 = 2;
@@ -42,6 +54,10 @@ pub const REFUSED_LINE: u8 = 5;
 pub const REFUSED_COLUMN: u8 = 6;
 /// The controller kind is too great.
 pub const REFUSED_KIND: u8 = 7;
+/// The profile is too great.
+pub const REFUSED_PROFILE: u8 = 12;
+/// The 16K machine with a controller.
+pub const REFUSED_CONTROLLER: u8 = 13;
 
 // ----------------------------------------------------------------------------
 // Video
@@ -55,6 +71,8 @@ pub struct State {
     pub mode: u8,
     /// The flash counter, 0 to 31; ink with the flash style is hidden from 16 on.
     pub counter: u8,
+    /// The machine, which no call changes: 0 the 48K, 1 the 16K.
+    pub profile: u8,
 }
 
 /// The answer of a painted line or frame.
@@ -77,7 +95,7 @@ pub struct Painted {
 pub struct Address {
     /// 0, or the refusal's number.
     pub status: u8,
-    /// Where the cell's screen byte stands in RAM.
+    /// Where the cell's screen byte stands in RAM: the folded address.
     pub address: u16,
 }
 
@@ -85,7 +103,8 @@ pub struct Address {
 extern "C" {
     pub fn tropfenpfad_fresh_state() -> State;
 
-    pub fn tropfenpfad_screen_address(line: usize, column: usize, mode: u8) -> Address;
+    pub fn tropfenpfad_screen_address(profile: u8, line: usize, column: usize, mode: u8)
+        -> Address;
 
     pub fn tropfenpfad_paint_line(
         memory: *const u8,
@@ -116,7 +135,7 @@ pub const KIND_MICRODISC: u8 = 1;
 /// The Jasmin: two latches, at 03FA and 03FB.
 pub const KIND_JASMIN: u8 = 2;
 
-/// RAM below C000; its number is the address.
+/// RAM below C000; its number is the folded address.
 pub const TARGET_RAM: u8 = 0;
 /// The 6522; its number is the register, 0 to 15.
 pub const TARGET_VIA: u8 = 1;
@@ -135,7 +154,7 @@ pub const TARGET_UNASSIGNED: u8 = 6;
 #[repr(C)]
 #[derive(Clone, Copy, Debug, PartialEq, Eq)]
 pub struct Latches {
-    /// 0 none, 1 Microdisc, 2 Jasmin.
+    /// 0 none, 1 Microdisc, 2 Jasmin; the 16K machine takes 0 alone.
     pub kind: u8,
     /// Microdisc: written at 0314. Jasmin: written at 03FA.
     pub first: u8,
@@ -189,11 +208,12 @@ pub struct Written {
 extern "C" {
     pub fn tropfenpfad_fresh_latches() -> Latches;
 
-    pub fn tropfenpfad_decode(latches: Latches, address: u16) -> Decoded;
+    pub fn tropfenpfad_decode(profile: u8, latches: Latches, address: u16) -> Decoded;
 
     pub fn tropfenpfad_read(
         memory: *const u8,
         memory_length: usize,
+        profile: u8,
         latches: Latches,
         address: u16,
     ) -> Access;
@@ -201,6 +221,7 @@ extern "C" {
     pub fn tropfenpfad_write(
         memory: *mut u8,
         memory_length: usize,
+        profile: u8,
         latches: Latches,
         address: u16,
         byte: u8,
@@ -209,6 +230,7 @@ extern "C" {
     pub fn tropfenpfad_write_in_place(
         memory: *mut u8,
         memory_length: usize,
+        profile: u8,
         latches: *mut Latches,
         address: u16,
         byte: u8,

@@ -1,6 +1,6 @@
 /*
- * Paints one frame of a RAM image from the fresh state and prints the state
- * and the counts that come with it.
+ * Paints one frame of a RAM image of the 48K machine from the fresh state and
+ * prints the state and the counts that come with it.
  *
  * In the repository's root, after `make lib`:
  *

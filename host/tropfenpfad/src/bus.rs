@@ -8,7 +8,7 @@ use crate::refusal::{check, Refusal};
 #[derive(Clone, Copy, Debug, PartialEq, Eq, Hash)]
 #[repr(u8)]
 pub enum Target {
-    /// RAM below C000; its number is the address.
+    /// RAM below C000; its number is the folded address.
     Ram = ffi::TARGET_RAM,
     /// The 6522; its number is the register, 0 to 15.
     Via = ffi::TARGET_VIA,
@@ -51,7 +51,8 @@ pub struct Place {
 }
 
 /// The latches to begin with: kind 0 (no controller), both bytes 0. The caller sets the kind of
-/// the controller that is fitted; the calls that use it refuse one above 2.
+/// the controller that is fitted; the calls that use it refuse one above 2, and in profile 1 one
+/// above 0.
 ///
 /// ```
 /// use tropfenpfad::{fresh_latches, Latches, KIND_MICRODISC};
@@ -64,68 +65,80 @@ pub fn fresh_latches() -> Latches {
     unsafe { ffi::tropfenpfad_fresh_latches() }
 }
 
-/// What answers at an address. Refuses kind.
+/// What answers at an address. Refuses profile, kind, controller.
 ///
 /// ```
-/// use tropfenpfad::{decode, fresh_latches, Target};
+/// use tropfenpfad::{decode, fresh_latches, Target, PROFILE_16K, PROFILE_48K};
 ///
-/// let place = decode(fresh_latches(), 0xC123)?;
+/// let place = decode(PROFILE_48K, fresh_latches(), 0xC123)?;
 /// assert_eq!((place.target, place.number), (Target::BasicRom, 0x0123));
+/// // The 16K machine folds the addresses of RAM.
+/// let place = decode(PROFILE_16K, fresh_latches(), 0xBB80)?;
+/// assert_eq!((place.target, place.number), (Target::Ram, 0x3B80));
 /// # Ok::<(), tropfenpfad::Refusal>(())
 /// ```
-pub fn decode(latches: Latches, address: u16) -> Result<Place, Refusal> {
+pub fn decode(profile: u8, latches: Latches, address: u16) -> Result<Place, Refusal> {
     // SAFETY: no pointer is handed over.
-    let answer = unsafe { ffi::tropfenpfad_decode(latches, address) };
+    let answer = unsafe { ffi::tropfenpfad_decode(profile, latches, address) };
     place(answer.status, answer.target, answer.number)
 }
 
 /// Reads over the bus: where it went, and the RAM byte, or 0 from anything but RAM. Refuses
-/// memory, kind.
-pub fn read(memory: &[u8], latches: Latches, address: u16) -> Result<(Place, u8), Refusal> {
+/// profile, memory, kind, controller.
+pub fn read(
+    memory: &[u8],
+    profile: u8,
+    latches: Latches,
+    address: u16,
+) -> Result<(Place, u8), Refusal> {
     // SAFETY: the slice is valid for its length.
-    let answer = unsafe { ffi::tropfenpfad_read(memory.as_ptr(), memory.len(), latches, address) };
+    let answer =
+        unsafe { ffi::tropfenpfad_read(memory.as_ptr(), memory.len(), profile, latches, address) };
     place(answer.status, answer.target, answer.number).map(|place| (place, answer.byte))
 }
 
 /// Writes over the bus: where it went, and the latches that hold from the next access on. Refuses
-/// memory, kind.
+/// profile, memory, kind, controller.
 pub fn write(
     memory: &mut [u8],
+    profile: u8,
     latches: Latches,
     address: u16,
     byte: u8,
 ) -> Result<(Place, Latches), Refusal> {
+    let (start, length) = (memory.as_mut_ptr(), memory.len());
     // SAFETY: the slice is valid for its length and lent to be changed.
-    let answer = unsafe {
-        ffi::tropfenpfad_write(memory.as_mut_ptr(), memory.len(), latches, address, byte)
-    };
+    let answer = unsafe { ffi::tropfenpfad_write(start, length, profile, latches, address, byte) };
     place(answer.status, answer.target, answer.number).map(|place| (place, answer.latches))
 }
 
-/// Writes over the bus and leaves the latches in the lent record. Refuses memory, kind.
+/// Writes over the bus and leaves the latches in the lent record. Refuses profile, memory, kind,
+/// controller.
 ///
 /// ```
-/// use tropfenpfad::{fresh_latches, write_in_place, Target, IMAGE_LENGTH, KIND_MICRODISC};
+/// use tropfenpfad::{fresh_latches, write_in_place, Target};
+/// use tropfenpfad::{IMAGE_LENGTH, KIND_MICRODISC, PROFILE_48K};
 ///
 /// let mut memory = vec![0; IMAGE_LENGTH];
 /// let mut latches = fresh_latches();
 /// latches.kind = KIND_MICRODISC;
-/// write_in_place(&mut memory, &mut latches, 0x0314, 0xFD)?;
-/// let place = write_in_place(&mut memory, &mut latches, 0xC000, 0x42)?;
+/// write_in_place(&mut memory, PROFILE_48K, &mut latches, 0x0314, 0xFD)?;
+/// let place = write_in_place(&mut memory, PROFILE_48K, &mut latches, 0xC000, 0x42)?;
 /// assert_eq!(place.target, Target::OverlayRam);
 /// assert_eq!(memory[0xC000], 0x42);
 /// # Ok::<(), tropfenpfad::Refusal>(())
 /// ```
 pub fn write_in_place(
     memory: &mut [u8],
+    profile: u8,
     latches: &mut Latches,
     address: u16,
     byte: u8,
 ) -> Result<Place, Refusal> {
+    let (start, length) = (memory.as_mut_ptr(), memory.len());
     // SAFETY: as for a write; the record is another exclusive loan.
-    let answer = unsafe {
-        ffi::tropfenpfad_write_in_place(memory.as_mut_ptr(), memory.len(), latches, address, byte)
-    };
+    let answer =
+        unsafe { ffi::tropfenpfad_write_in_place(start, length, profile, latches, address, byte) };
     place(answer.status, answer.target, answer.number)
 }
 

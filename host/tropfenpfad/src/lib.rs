@@ -4,6 +4,11 @@
 //! an address, a read, and a write in two forms. Each call gives its answer or a [`Refusal`]; on a
 //! refusal nothing that was lent has changed.
 //!
+//! Every call that deals in addresses takes the profile, 0 for the 48K machine and 1 for the 16K
+//! machine: the painters in the [`State`], the others as an argument. The RAM of the 16K machine is
+//! mirrored in each 16K block below C000. Its memory image is 16,384 bytes, and a RAM address is
+//! folded: taken mod 16,384.
+//!
 //! ```
 //! let memory = vec![0; tropfenpfad::IMAGE_LENGTH];
 //! let mut frame = vec![0xFF; tropfenpfad::FRAME_LENGTH];
@@ -28,6 +33,6 @@ pub use video::{fresh_state, paint_frame, paint_line, screen_address, Painting};
 
 #[doc(inline)]
 pub use tropfenpfad_sys::{
-    Latches, State, COLUMNS, FRAME_LENGTH, IMAGE_LENGTH, KIND_JASMIN, KIND_MICRODISC, KIND_NONE,
-    LINES, LINE_LENGTH,
+    Latches, State, COLUMNS, FRAME_LENGTH, IMAGE_LENGTH, IMAGE_LENGTH_16K, KIND_JASMIN,
+    KIND_MICRODISC, KIND_NONE, LINES, LINE_LENGTH, PROFILE_16K, PROFILE_48K,
 };

@@ -10,7 +10,7 @@ use tropfenpfad_sys as ffi;
 #[derive(Clone, Copy, Debug, PartialEq, Eq, PartialOrd, Ord, Hash)]
 #[repr(u8)]
 pub enum Refusal {
-    /// The memory image is not 65,536 bytes long.
+    /// The memory image has not the profile's length: 65,536 bytes for 0, 16,384 for 1.
     Memory = ffi::REFUSED_MEMORY,
     /// The lent output is not 240 bytes long for a line, or 53,760 for a frame.
     Output = ffi::REFUSED_OUTPUT,
@@ -24,11 +24,15 @@ pub enum Refusal {
     Column = ffi::REFUSED_COLUMN,
     /// The controller kind is above 2.
     Kind = ffi::REFUSED_KIND,
+    /// The profile is above 1.
+    Profile = ffi::REFUSED_PROFILE,
+    /// The profile is 1, the 16K machine, and the controller kind is not 0.
+    Controller = ffi::REFUSED_CONTROLLER,
 }
 
 impl Refusal {
     /// Every refusal, in the order of their numbers.
-    pub const ALL: [Refusal; 7] = [
+    pub const ALL: [Refusal; 9] = [
         Refusal::Memory,
         Refusal::Output,
         Refusal::Mode,
@@ -36,6 +40,8 @@ impl Refusal {
         Refusal::Line,
         Refusal::Column,
         Refusal::Kind,
+        Refusal::Profile,
+        Refusal::Controller,
     ];
 
     /// The refusal with this number, if there is one.
@@ -53,13 +59,17 @@ impl Refusal {
     /// What was wrong, in words.
     pub fn text(self) -> &'static str {
         match self {
-            Refusal::Memory => "the memory image is not 65,536 bytes",
+            Refusal::Memory => {
+                "the memory image is not 65,536 bytes for profile 0 or 16,384 for profile 1"
+            }
             Refusal::Output => "the output is not 240 bytes for a line or 53,760 for a frame",
             Refusal::Mode => "the mode is above 7",
             Refusal::Counter => "the flash counter is above 31",
             Refusal::Line => "the line is above 223",
             Refusal::Column => "the column is above 39",
             Refusal::Kind => "the controller kind is above 2",
+            Refusal::Profile => "the profile is above 1",
+            Refusal::Controller => "the profile is 1 and the controller kind is not 0",
         }
     }
 }

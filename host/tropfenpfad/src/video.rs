@@ -15,25 +15,36 @@ pub struct Painting {
     pub character: u32,
 }
 
-/// The state to begin with: mode 2 (text, 50 Hz), counter 0.
+/// The state to begin with: mode 2 (text, 50 Hz), counter 0, profile 0. For the 16K machine the
+/// caller sets the profile.
+///
+/// ```
+/// use tropfenpfad::{fresh_state, State, PROFILE_16K};
+///
+/// let state = State { profile: PROFILE_16K, ..fresh_state() };
+/// assert_eq!((state.mode, state.counter), (2, 0));
+/// ```
 pub fn fresh_state() -> State {
     // SAFETY: no pointer is handed over.
     unsafe { ffi::tropfenpfad_fresh_state() }
 }
 
-/// Where the screen byte of a cell stands. Refuses mode, line, column.
+/// Where the screen byte of a cell stands: the folded address. Refuses profile, mode, line, column.
 ///
 /// ```
-/// assert_eq!(tropfenpfad::screen_address(199, 39, 6), Ok(0xBF3F));
+/// use tropfenpfad::{screen_address, PROFILE_16K, PROFILE_48K};
+///
+/// assert_eq!(screen_address(PROFILE_48K, 199, 39, 6), Ok(0xBF3F));
+/// assert_eq!(screen_address(PROFILE_16K, 199, 39, 6), Ok(0x3F3F));
 /// ```
-pub fn screen_address(line: usize, column: usize, mode: u8) -> Result<u16, Refusal> {
+pub fn screen_address(profile: u8, line: usize, column: usize, mode: u8) -> Result<u16, Refusal> {
     // SAFETY: no pointer is handed over.
-    let answer = unsafe { ffi::tropfenpfad_screen_address(line, column, mode) };
+    let answer = unsafe { ffi::tropfenpfad_screen_address(profile, line, column, mode) };
     check(answer.status).map(|()| answer.address)
 }
 
-/// Paints one line of 240 pixels; the counter does not move. Refuses memory, output, mode,
-/// counter, line.
+/// Paints one line of 240 pixels; the counter does not move. Refuses profile, memory, output,
+/// mode, counter, line.
 pub fn paint_line(
     memory: &[u8],
     state: State,
@@ -54,7 +65,7 @@ pub fn paint_line(
 }
 
 /// Paints a frame, line after line from 240 times its number on; the counter moves by one.
-/// Refuses memory, output, mode, counter.
+/// Refuses profile, memory, output, mode, counter.
 ///
 /// ```
 /// use tropfenpfad::{fresh_state, paint_frame, FRAME_LENGTH, IMAGE_LENGTH};

@@ -1,5 +1,4 @@
-//! Writes the figures for decode and for the generated images, as the model makes them. They are
-//! the last lines of `crates/figures/stdout`.
+//! Writes all figures of `crates/figures/stdout`, as the models make them.
 
 fn main() {
     print!("{}", tropfenpfad_conformance::figures::lines());

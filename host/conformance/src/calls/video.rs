@@ -7,9 +7,9 @@ pub fn fresh_state() -> State {
     unsafe { ffi::tropfenpfad_fresh_state() }
 }
 
-pub fn screen_address(line: usize, column: usize, mode: u8) -> Address {
+pub fn screen_address(profile: u8, line: usize, column: usize, mode: u8) -> Address {
     // SAFETY: no pointer is handed over.
-    unsafe { ffi::tropfenpfad_screen_address(line, column, mode) }
+    unsafe { ffi::tropfenpfad_screen_address(profile, line, column, mode) }
 }
 
 pub fn paint_line(memory: &[u8], state: State, line: usize, output: &mut [u8]) -> Painted {

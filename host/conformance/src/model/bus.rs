@@ -4,7 +4,7 @@ mod decoder;
 
 use tropfenpfad_sys::{Access, Decoded, Latches, Written};
 
-use super::refusal::{first_of, of_kind, of_memory};
+use super::refusal::{first_of, of_controller, of_kind, of_memory, of_profile};
 use decoder::Decoder;
 
 /// The model of the bus half, with its maps.
@@ -36,8 +36,12 @@ impl Bus {
     }
 
     /// What answers at an address.
-    pub fn decode(&self, latches: Latches, address: u16) -> Decoded {
-        let status = first_of(&[of_kind(latches)]);
+    pub fn decode(&self, profile: u8, latches: Latches, address: u16) -> Decoded {
+        let status = first_of(&[
+            of_profile(profile),
+            of_kind(latches),
+            of_controller(profile, latches),
+        ]);
         if status != 0 {
             return Decoded {
                 status,
@@ -45,7 +49,7 @@ impl Bus {
                 number: 0,
             };
         }
-        let (target, number) = self.decoder.decode(latches, address);
+        let (target, number) = self.decoder.decode(profile, latches, address);
         Decoded {
             status: 0,
             target,
@@ -54,12 +58,12 @@ impl Bus {
     }
 
     /// Reads over the bus.
-    pub fn read(&self, memory: &[u8], latches: Latches, address: u16) -> Access {
-        let status = first_of(&[of_memory(memory), of_kind(latches)]);
+    pub fn read(&self, memory: &[u8], profile: u8, latches: Latches, address: u16) -> Access {
+        let status = access_refusal(memory, profile, latches);
         if status != 0 {
             return refused(status);
         }
-        let (target, number) = self.decoder.decode(latches, address);
+        let (target, number) = self.decoder.decode(profile, latches, address);
         let kept = 0u8.wrapping_sub(decoder::is_ram(target) as u8);
         Access {
             status: 0,
@@ -70,9 +74,16 @@ impl Bus {
     }
 
     /// Writes over the bus, latches by value.
-    pub fn write(&self, memory: &mut [u8], latches: Latches, address: u16, byte: u8) -> Written {
+    pub fn write(
+        &self,
+        memory: &mut [u8],
+        profile: u8,
+        latches: Latches,
+        address: u16,
+        byte: u8,
+    ) -> Written {
         let mut latches = latches;
-        let answer = self.write_in_place(memory, &mut latches, address, byte);
+        let answer = self.write_in_place(memory, profile, &mut latches, address, byte);
         Written {
             status: answer.status,
             target: answer.target,
@@ -86,15 +97,16 @@ impl Bus {
     pub fn write_in_place(
         &self,
         memory: &mut [u8],
+        profile: u8,
         latches: &mut Latches,
         address: u16,
         byte: u8,
     ) -> Access {
-        let status = first_of(&[of_memory(memory), of_kind(*latches)]);
+        let status = access_refusal(memory, profile, *latches);
         if status != 0 {
             return refused(status);
         }
-        let (target, number) = self.decoder.decode(*latches, address);
+        let (target, number) = self.decoder.decode(profile, *latches, address);
         if decoder::is_ram(target) {
             memory[usize::from(number)] = byte;
         }
@@ -106,6 +118,15 @@ impl Bus {
             byte: 0,
         }
     }
+}
+
+fn access_refusal(memory: &[u8], profile: u8, latches: Latches) -> u8 {
+    first_of(&[
+        of_profile(profile),
+        of_memory(profile, memory),
+        of_kind(latches),
+        of_controller(profile, latches),
+    ])
 }
 
 fn refused(status: u8) -> Access {

@@ -6,6 +6,21 @@ use tropfenpfad_sys::{Painted, State, COLUMNS, LINES, LINE_LENGTH};
 
 /// Every pixel of a cell.
 const ALL: u8 = 0x3F;
+/// The address bits that find a RAM byte, by profile.
+const ADDRESS_BITS: [usize; 2] = [0xFFFF, 0x3FFF];
+
+/// The RAM, of which every address reaches a byte.
+#[derive(Clone, Copy)]
+struct Ram<'a> {
+    bytes: &'a [u8],
+    address_bits: usize,
+}
+
+impl Ram<'_> {
+    fn at(self, address: usize) -> u8 {
+        self.bytes[address & self.address_bits]
+    }
+}
 
 #[derive(Clone, Copy)]
 struct Registers {
@@ -17,6 +32,10 @@ struct Registers {
 
 /// Paints one frame of an image and a state that are known to be good.
 pub fn paint_frame(memory: &[u8], state: State, frame: &mut [u8]) -> Painted {
+    let ram = Ram {
+        bytes: memory,
+        address_bits: ADDRESS_BITS[usize::from(state.profile)],
+    };
     let mut mode = state.mode;
     let mut character = 0;
     for (line, pixels) in frame.chunks_exact_mut(LINE_LENGTH).enumerate() {
@@ -27,7 +46,7 @@ pub fn paint_frame(memory: &[u8], state: State, frame: &mut [u8]) -> Painted {
             mode,
         };
         for (column, six) in pixels.chunks_exact_mut(6).enumerate() {
-            character += cell(memory, state.counter, line, column, &mut registers, six);
+            character += cell(ram, state.counter, line, column, &mut registers, six);
         }
         mode = registers.mode;
     }
@@ -36,6 +55,7 @@ pub fn paint_frame(memory: &[u8], state: State, frame: &mut [u8]) -> Painted {
         state: State {
             mode,
             counter: (state.counter + 1) % 32,
+            profile: state.profile,
         },
         screen: (LINES * COLUMNS) as u32,
         character,
@@ -44,7 +64,7 @@ pub fn paint_frame(memory: &[u8], state: State, frame: &mut [u8]) -> Painted {
 
 /// Paints one cell and latches its byte; gives how many character bytes it used.
 fn cell(
-    memory: &[u8],
+    ram: Ram,
     counter: u8,
     line: usize,
     column: usize,
@@ -57,14 +77,14 @@ fn cell(
     } else {
         0xBB80 + COLUMNS * (line / 8)
     };
-    let byte = memory[screen + column];
+    let byte = ram.at(screen + column);
     let (pattern, used) = if byte & 0x60 == 0 {
         latch(byte, registers);
         (0, 0)
     } else if bitmap {
         (byte & ALL, 0)
     } else {
-        (definition(memory, line, *registers, byte) & ALL, 1)
+        (definition(ram, line, *registers, byte) & ALL, 1)
     };
     let hidden = registers.style & 4 != 0 && counter >= 16;
     let ink = if hidden {
@@ -99,7 +119,7 @@ fn latch(byte: u8, registers: &mut Registers) {
     }
 }
 
-fn definition(memory: &[u8], line: usize, registers: Registers, byte: u8) -> u8 {
+fn definition(ram: Ram, line: usize, registers: Registers, byte: u8) -> u8 {
     let set = if registers.mode & 4 != 0 {
         0x9800
     } else {
@@ -111,5 +131,5 @@ fn definition(memory: &[u8], line: usize, registers: Registers, byte: u8) -> u8 
     } else {
         line
     } % 8;
-    memory[set + alternate + 8 * usize::from(byte & 0x7F) + row]
+    ram.at(set + alternate + 8 * usize::from(byte & 0x7F) + row)
 }

@@ -1,6 +1,6 @@
 //! The tests that stand before an answer. Each gives its number and whether it applies.
 
-use tropfenpfad_sys::{Latches, COLUMNS, IMAGE_LENGTH, LINES};
+use tropfenpfad_sys::{Latches, COLUMNS, IMAGE_LENGTH, IMAGE_LENGTH_16K, LINES, PROFILE_16K};
 
 /// A refusal's number, and whether it applies.
 pub(super) type Test = (u8, bool);
@@ -13,8 +13,12 @@ pub(super) fn first_of(tests: &[Test]) -> u8 {
         .map_or(0, |(number, _)| *number)
 }
 
-pub(super) fn of_memory(memory: &[u8]) -> Test {
-    (1, memory.len() != IMAGE_LENGTH)
+pub(super) fn of_memory(profile: u8, memory: &[u8]) -> Test {
+    let length = match profile {
+        PROFILE_16K => IMAGE_LENGTH_16K,
+        _ => IMAGE_LENGTH,
+    };
+    (1, memory.len() != length)
 }
 
 pub(super) fn of_output(output: &[u8], length: usize) -> Test {
@@ -39,4 +43,12 @@ pub(super) fn of_column(column: usize) -> Test {
 
 pub(super) fn of_kind(latches: Latches) -> Test {
     (7, latches.kind > 2)
+}
+
+pub(super) fn of_profile(profile: u8) -> Test {
+    (12, profile > 1)
+}
+
+pub(super) fn of_controller(profile: u8, latches: Latches) -> Test {
+    (13, profile == PROFILE_16K && latches.kind > 0)
 }

@@ -3,14 +3,16 @@
 mod painter;
 
 use tropfenpfad_sys::{
-    Address, Painted, State, COLUMNS, FRAME_LENGTH, IMAGE_LENGTH, LINES, LINE_LENGTH,
+    Address, Painted, State, COLUMNS, FRAME_LENGTH, LINES, LINE_LENGTH, PROFILE_16K,
 };
 
-use super::refusal::{first_of, of_column, of_counter, of_line, of_memory, of_mode, of_output};
+use super::refusal::{
+    first_of, of_column, of_counter, of_line, of_memory, of_mode, of_output, of_profile,
+};
 use painter::Painter;
 
-/// The RAM image, once its length is known.
-type Image = [u8; IMAGE_LENGTH];
+/// The block of 16K that holds all that video reads.
+type Block = [u8; 0x4000];
 
 /// The model of the video half, with its tables.
 pub struct Video {
@@ -31,19 +33,28 @@ impl Video {
         }
     }
 
-    /// Mode 2, counter 0.
+    /// Mode 2, counter 0, profile 0.
     pub fn fresh_state(&self) -> State {
         State {
             mode: 2,
             counter: 0,
+            profile: 0,
         }
     }
 
     /// Where the screen byte of a cell stands.
-    pub fn screen_address(&self, line: usize, column: usize, mode: u8) -> Address {
-        let status = first_of(&[of_mode(mode), of_line(line), of_column(column)]);
+    pub fn screen_address(&self, profile: u8, line: usize, column: usize, mode: u8) -> Address {
+        let status = first_of(&[
+            of_profile(profile),
+            of_mode(mode),
+            of_line(line),
+            of_column(column),
+        ]);
         let address = match status {
-            0 => painter::line_starts(line)[usize::from(mode >> 2)] + column,
+            0 => {
+                let start = painter::line_starts(line)[usize::from(mode >> 2)];
+                block_start(profile) + start + column
+            }
             _ => 0,
         };
         Address {
@@ -61,7 +72,8 @@ impl Video {
         output: &mut [u8],
     ) -> Painted {
         let status = first_of(&[
-            of_memory(memory),
+            of_profile(state.profile),
+            of_memory(state.profile, memory),
             of_output(output, LINE_LENGTH),
             of_mode(state.mode),
             of_counter(state.counter),
@@ -70,11 +82,11 @@ impl Video {
         if status != 0 {
             return refused(status, state);
         }
-        let memory = memory.try_into().expect("the length was tested");
+        let block = block(memory, state.profile);
         let output = output.try_into().expect("the length was tested");
         let (mode, character) = self
             .painter
-            .line(memory, line, state.mode, state.counter, output);
+            .line(block, line, state.mode, state.counter, output);
         Painted {
             status: 0,
             state: State { mode, ..state },
@@ -86,7 +98,8 @@ impl Video {
     /// Paints one frame.
     pub fn paint_frame(&self, memory: &[u8], state: State, frame: &mut [u8]) -> Painted {
         let status = first_of(&[
-            of_memory(memory),
+            of_profile(state.profile),
+            of_memory(state.profile, memory),
             of_output(frame, FRAME_LENGTH),
             of_mode(state.mode),
             of_counter(state.counter),
@@ -94,12 +107,12 @@ impl Video {
         if status != 0 {
             return refused(status, state);
         }
-        let memory = memory.try_into().expect("the length was tested");
+        let block = block(memory, state.profile);
         let mut mode = state.mode;
         let mut total = 0;
         for (line, output) in frame.chunks_exact_mut(LINE_LENGTH).enumerate() {
             let output = output.try_into().expect("chunks are lines");
-            let (next, character) = self.painter.line(memory, line, mode, state.counter, output);
+            let (next, character) = self.painter.line(block, line, mode, state.counter, output);
             mode = next;
             total += character;
         }
@@ -108,11 +121,26 @@ impl Video {
             state: State {
                 mode,
                 counter: (state.counter + 1) & 31,
+                ..state
             },
             screen: (COLUMNS * LINES) as u32,
             character: total,
         }
     }
+}
+
+/// Where the block starts: in the 16K machine it is all the RAM.
+fn block_start(profile: u8) -> usize {
+    match profile {
+        PROFILE_16K => 0,
+        _ => 0x8000,
+    }
+}
+
+fn block(memory: &[u8], profile: u8) -> &Block {
+    memory[block_start(profile)..]
+        .first_chunk()
+        .expect("the length was tested")
 }
 
 fn refused(status: u8, state: State) -> Painted {

@@ -5,20 +5,26 @@ use std::ptr;
 use tropfenpfad_conformance::calls;
 use tropfenpfad_conformance::guarded::{memories, Against, Lent, SIDES};
 use tropfenpfad_conformance::images::Kind;
+use tropfenpfad_conformance::inputs::in_each_profile;
 use tropfenpfad_conformance::model::Bus;
 use tropfenpfad_sys::{self as ffi, Access, Latches, Written};
 
-const ADDRESSES: [u16; 9] = [
-    0x0000, 0x0300, 0x0314, 0x03FA, 0x03FB, 0xBFFF, 0xC000, 0xFFFE, 0xFFFF,
+const ADDRESSES: [u16; 14] = [
+    0x0000, 0x0300, 0x0314, 0x03FA, 0x03FB, 0x3FFF, 0x4000, 0x4300, 0x7FFF, 0x8000, 0xBFFF, 0xC000,
+    0xFFFE, 0xFFFF,
 ];
 
-/// Latches of every kind, a refused one too, with bits that select each thing at C000.
-fn latch_records() -> Vec<Latches> {
-    let record = |kind, first, second| Latches {
+fn record(kind: u8, first: u8, second: u8) -> Latches {
+    Latches {
         kind,
         first,
         second,
-    };
+    }
+}
+
+/// Latches of every kind, a refused one too, with bits that select each thing at C000, in both
+/// profiles and in a wrong one.
+fn boards() -> impl Iterator<Item = (u8, Latches)> {
     let mut records = vec![record(0, 0, 0), record(255, 1, 1)];
     for first in [0x00, 0x01, 0x02, 0x80] {
         records.extend([
@@ -27,7 +33,10 @@ fn latch_records() -> Vec<Latches> {
             record(2, first, 1),
         ]);
     }
-    records
+    (0..3).flat_map(move |profile| {
+        let records = records.clone().into_iter();
+        records.map(move |record| (profile, record))
+    })
 }
 
 /// The bytes of a latch record as it is lent.
@@ -35,28 +44,23 @@ fn bytes(latches: Latches) -> Vec<u8> {
     vec![latches.kind, latches.first, latches.second]
 }
 
-fn read(memory: &Lent, latches: Latches, address: u16) -> Access {
+fn read(memory: &Lent, profile: u8, latches: Latches, address: u16) -> Access {
     // SAFETY: the buffer is open for its length.
-    unsafe { ffi::tropfenpfad_read(memory.pointer(), memory.length(), latches, address) }
+    unsafe { ffi::tropfenpfad_read(memory.pointer(), memory.length(), profile, latches, address) }
 }
 
-fn write(memory: &Lent, latches: Latches, address: u16, byte: u8) -> Written {
+fn write(memory: &Lent, profile: u8, latches: Latches, address: u16, byte: u8) -> Written {
+    let (start, length) = (memory.pointer(), memory.length());
     // SAFETY: the buffer is open for its length.
-    unsafe { ffi::tropfenpfad_write(memory.pointer(), memory.length(), latches, address, byte) }
+    unsafe { ffi::tropfenpfad_write(start, length, profile, latches, address, byte) }
 }
 
-fn write_in_place(memory: &Lent, record: &Lent, address: u16, byte: u8) -> Access {
+fn write_in_place(memory: &Lent, profile: u8, record: &Lent, address: u16, byte: u8) -> Access {
+    let (start, length) = (memory.pointer(), memory.length());
+    let latches = record.pointer().cast();
     // SAFETY: both buffers are open for their lengths and lie in mappings of their own; a latch
     // record is three bytes with no alignment.
-    unsafe {
-        ffi::tropfenpfad_write_in_place(
-            memory.pointer(),
-            memory.length(),
-            record.pointer().cast(),
-            address,
-            byte,
-        )
-    }
+    unsafe { ffi::tropfenpfad_write_in_place(start, length, profile, latches, address, byte) }
 }
 
 #[test]
@@ -65,10 +69,10 @@ fn a_read_that_leaves_its_buffer() {
     let (mut calls, mut refused) = (0, 0);
     for memory in memories(Kind::Random) {
         memory.make_read_only();
-        for latches in latch_records() {
+        for (profile, latches) in boards() {
             for address in ADDRESSES {
-                let answer = read(&memory, latches, address);
-                assert_eq!(answer, model.read(&memory.copy, latches, address));
+                let answer = read(&memory, profile, latches, address);
+                assert_eq!(answer, model.read(&memory.copy, profile, latches, address));
                 calls += 1;
                 refused += usize::from(answer.status != 0);
             }
@@ -83,11 +87,11 @@ fn a_write_that_leaves_its_buffer() {
     let model = Bus::new();
     let (mut calls, mut refused) = (0, 0);
     for mut memory in memories(Kind::Random) {
-        for latches in latch_records() {
+        for (profile, latches) in boards() {
             for address in ADDRESSES {
                 let byte = !address as u8 ^ latches.first;
-                let answer = write(&memory, latches, address, byte);
-                let due = model.write(&mut memory.copy, latches, address, byte);
+                let answer = write(&memory, profile, latches, address, byte);
+                let due = model.write(&mut memory.copy, profile, latches, address, byte);
                 assert_eq!(answer, due);
                 memory.check("memory");
                 calls += 1;
@@ -104,12 +108,13 @@ fn a_write_in_place_that_leaves_its_buffers() {
     let (mut calls, mut refused) = (0, 0);
     for mut memory in memories(Kind::Random) {
         for side in SIDES {
-            for mut latches in latch_records() {
+            for (profile, mut latches) in boards() {
                 let mut record = Lent::new(side, bytes(latches));
                 for address in ADDRESSES {
                     let byte = address as u8 ^ latches.second;
-                    let answer = write_in_place(&memory, &record, address, byte);
-                    let due = model.write_in_place(&mut memory.copy, &mut latches, address, byte);
+                    let answer = write_in_place(&memory, profile, &record, address, byte);
+                    let lent = &mut memory.copy;
+                    let due = model.write_in_place(lent, profile, &mut latches, address, byte);
                     assert_eq!(answer, due);
                     record.copy = bytes(latches);
                     record.check("latches");
@@ -125,38 +130,47 @@ fn a_write_in_place_that_leaves_its_buffers() {
 
 #[test]
 fn a_refused_write_that_stores() {
-    let record = Latches {
-        kind: 3,
-        first: 0x80,
-        second: 1,
-    };
+    // A kind that there is not, a controller that the 16K machine has not, and a wrong profile.
+    let refused = [(0, 3), (1, 3), (1, 1), (1, 2), (2, 0)];
     let mut calls = 0;
     for memory in memories(Kind::Random) {
         memory.make_read_only();
-        for address in ADDRESSES {
-            let kept = Lent::new(Against::End, bytes(record));
-            assert_ne!(write(&memory, record, address, 0).status, 0);
-            assert_ne!(write_in_place(&memory, &kept, address, 0).status, 0);
-            kept.check("latches");
-            calls += 2;
+        for (profile, kind) in refused {
+            let record = record(kind, 0x80, 1);
+            for address in ADDRESSES {
+                let kept = Lent::new(Against::End, bytes(record));
+                assert_ne!(write(&memory, profile, record, address, 0).status, 0);
+                assert_ne!(
+                    write_in_place(&memory, profile, &kept, address, 0).status,
+                    0
+                );
+                kept.check("latches");
+                calls += 2;
+            }
         }
         memory.check("memory");
     }
     println!("refused writes to read-only pages: {calls} bad inputs compared");
 }
 
-#[test]
-fn a_null_pointer_of_length_0_that_is_followed() {
+fn lend_null_pointers(profile: u8) {
     let latches = calls::fresh_latches();
     let mut record = latches;
     let (from, to) = (ptr::null::<u8>(), ptr::null_mut::<u8>());
     // SAFETY: a null pointer comes with the length 0 only.
     unsafe {
-        assert_eq!(ffi::tropfenpfad_read(from, 0, latches, 0).status, 1);
-        assert_eq!(ffi::tropfenpfad_write(to, 0, latches, 0, 0).status, 1);
-        let answer = ffi::tropfenpfad_write_in_place(to, 0, &mut record, 0x314, 9);
+        let answer = ffi::tropfenpfad_read(from, 0, profile, latches, 0);
+        assert_eq!(answer.status, 1);
+        let answer = ffi::tropfenpfad_write(to, 0, profile, latches, 0, 0);
+        assert_eq!(answer.status, 1);
+        let answer = ffi::tropfenpfad_write_in_place(to, 0, profile, &mut record, 0x314, 9);
         assert_eq!(answer.status, 1);
     }
     assert_eq!(record, latches);
-    println!("null pointers to access: 3 bad inputs compared");
+    println!("profile {profile}, null pointers to access: 3 bad inputs compared");
+}
+
+#[test]
+fn a_null_pointer_of_length_0_that_is_followed() {
+    in_each_profile(lend_null_pointers);
 }

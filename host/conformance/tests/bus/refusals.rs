@@ -2,30 +2,33 @@
 //! comes back with it. The model is held to the same lists as the library.
 
 use tropfenpfad_conformance::calls;
-use tropfenpfad_conformance::inputs::fresh_of_kind;
+use tropfenpfad_conformance::inputs::{fresh_of_kind, image_length, in_each_profile, PROFILES};
 use tropfenpfad_conformance::model::Bus;
-use tropfenpfad_conformance::refusals::{latches, lent_bytes, Tally, MEMORIES};
-use tropfenpfad_sys::{Access, Decoded, Latches, Written, IMAGE_LENGTH};
+use tropfenpfad_conformance::refusals::{
+    boards, lent_bytes, memories, status_with_memory_of, Tally,
+};
+use tropfenpfad_sys::{Access, Decoded, Latches, Written, PROFILE_16K, PROFILE_48K};
 
-const ADDRESSES: [u16; 8] = [
-    0x0000, 0x0300, 0x0314, 0x03FA, 0x03FB, 0xBB80, 0xC000, 0xFFFF,
+const ADDRESSES: [u16; 9] = [
+    0x0000, 0x0300, 0x0314, 0x03FA, 0x03FB, 0x4300, 0xBB80, 0xC000, 0xFFFF,
 ];
 
 /// Tries a decode with every mix of inputs.
-fn refuse_decodes(name: &str, decode: impl Fn(Latches, u16) -> Decoded) {
+fn refuse_decodes(name: &str, decode: impl Fn(u8, Latches, u16) -> Decoded) {
     let mut tally = Tally::default();
-    for (latches, bad_kind) in latches() {
+    for (profile, latches, [bad_profile, bad_kind, bad_controller]) in boards() {
         for address in ADDRESSES {
-            let number = tally.due(&[(7, bad_kind)]);
-            let answer = decode(latches, address);
+            let number = tally.due(&[(12, bad_profile), (7, bad_kind), (13, bad_controller)]);
+            let answer = decode(profile, latches, address);
+            let what = format!("{name}: profile {profile}, {latches:?}");
             let refused = Decoded {
                 status: number,
                 target: 0,
                 number: 0,
             };
             match number {
-                0 => assert_eq!(answer.status, 0, "{name}: {latches:?}"),
-                _ => assert_eq!(answer, refused, "{name}: {latches:?}"),
+                0 => assert_eq!(answer.status, 0, "{what}"),
+                _ => assert_eq!(answer, refused, "{what}"),
             }
             tally.count(answer.status);
         }
@@ -34,16 +37,21 @@ fn refuse_decodes(name: &str, decode: impl Fn(Latches, u16) -> Decoded) {
 }
 
 /// Tries a read with every mix of inputs.
-fn refuse_reads(name: &str, read: impl Fn(&[u8], Latches, u16) -> Access) {
+fn refuse_reads(name: &str, read: impl Fn(&[u8], u8, Latches, u16) -> Access) {
     let untouched = lent_bytes();
     let memory = untouched.clone();
     let mut tally = Tally::default();
-    for (length, bad_memory) in MEMORIES.each() {
-        for (latches, bad_kind) in latches() {
+    for (profile, latches, [bad_profile, bad_kind, bad_controller]) in boards() {
+        for (length, bad_memory) in memories(profile) {
             for address in ADDRESSES {
-                let number = tally.due(&[(1, bad_memory), (7, bad_kind)]);
-                let answer = read(&memory[..length], latches, address);
-                let what = format!("{name}: {length} bytes, {latches:?}");
+                let number = tally.due(&[
+                    (12, bad_profile),
+                    (1, bad_memory),
+                    (7, bad_kind),
+                    (13, bad_controller),
+                ]);
+                let answer = read(&memory[..length], profile, latches, address);
+                let what = format!("{name}: {length} bytes, profile {profile}, {latches:?}");
                 let refused = Access {
                     status: number,
                     target: 0,
@@ -63,17 +71,25 @@ fn refuse_reads(name: &str, read: impl Fn(&[u8], Latches, u16) -> Access) {
 }
 
 /// Tries a form of write with every mix of inputs.
-fn refuse_writes(name: &str, write: impl Fn(&mut [u8], Latches, u16, u8) -> Written) {
+fn refuse_writes(name: &str, write: impl Fn(&mut [u8], u8, Latches, u16, u8) -> Written) {
     let untouched = lent_bytes();
     let mut memory = untouched.clone();
     let mut tally = Tally::default();
-    for (length, bad_memory) in MEMORIES.each() {
-        for (latches, bad_kind) in latches() {
+    for (profile, latches, [bad_profile, bad_kind, bad_controller]) in boards() {
+        for (length, bad_memory) in memories(profile) {
             for address in ADDRESSES {
-                let number = tally.due(&[(1, bad_memory), (7, bad_kind)]);
-                let byte = !untouched[usize::from(address)];
-                let answer = write(&mut memory[..length], latches, address, byte);
-                let what = format!("{name}: {length} bytes, {latches:?}, {address:04x}");
+                let number = tally.due(&[
+                    (12, bad_profile),
+                    (1, bad_memory),
+                    (7, bad_kind),
+                    (13, bad_controller),
+                ]);
+                let place = usize::from(address) % length.max(1);
+                let byte = !untouched[place];
+                let answer = write(&mut memory[..length], profile, latches, address, byte);
+                let what = format!(
+                    "{name}: {length} bytes, profile {profile}, {latches:?}, {address:04x}"
+                );
                 let refused = Written {
                     status: number,
                     target: 0,
@@ -86,7 +102,7 @@ fn refuse_writes(name: &str, write: impl Fn(&mut [u8], Latches, u16, u8) -> Writ
                     _ => assert_eq!(answer, refused, "{what}"),
                 }
                 if number == 0 {
-                    memory[usize::from(address)] = untouched[usize::from(address)];
+                    memory[place] = untouched[place];
                 }
                 assert_eq!(memory, untouched, "{what}");
                 tally.count(answer.status);
@@ -124,69 +140,112 @@ fn a_write_refused_wrongly_or_not_left_alone() {
 
 #[test]
 fn a_write_in_place_refused_wrongly_or_not_left_alone() {
-    refuse_writes("write_in_place", |memory, mut latches, address, byte| {
-        let answer = calls::write_in_place(memory, &mut latches, address, byte);
-        by_value(answer, latches)
-    });
-}
-
-#[test]
-fn a_model_that_refuses_otherwise() {
-    let model = Bus::new();
-    refuse_decodes("model decode", |latches, address| {
-        model.decode(latches, address)
-    });
-    refuse_reads("model read", |memory, latches, address| {
-        model.read(memory, latches, address)
-    });
-    refuse_writes("model write", |memory, latches, address, byte| {
-        model.write(memory, latches, address, byte)
-    });
     refuse_writes(
-        "model write_in_place",
-        |memory, mut latches, address, byte| {
-            let answer = model.write_in_place(memory, &mut latches, address, byte);
+        "write_in_place",
+        |memory, profile, mut latches, address, byte| {
+            let answer = calls::write_in_place(memory, profile, &mut latches, address, byte);
             by_value(answer, latches)
         },
     );
 }
 
 #[test]
-fn a_memory_length_taken_wrongly() {
+fn a_model_that_refuses_otherwise() {
+    let model = Bus::new();
+    refuse_decodes("model decode", |profile, latches, address| {
+        model.decode(profile, latches, address)
+    });
+    refuse_reads("model read", |memory, profile, latches, address| {
+        model.read(memory, profile, latches, address)
+    });
+    refuse_writes("model write", |memory, profile, latches, address, byte| {
+        model.write(memory, profile, latches, address, byte)
+    });
+    refuse_writes(
+        "model write_in_place",
+        |memory, profile, mut latches, address, byte| {
+            let answer = model.write_in_place(memory, profile, &mut latches, address, byte);
+            by_value(answer, latches)
+        },
+    );
+}
+
+/// What each call that takes memory says to it.
+fn statuses(memory: &mut [u8], profile: u8, latches: Latches) -> [u8; 3] {
+    let mut record = latches;
+    let statuses = [
+        calls::read(memory, profile, latches, 0).status,
+        calls::write(memory, profile, latches, 0, 0).status,
+        calls::write_in_place(memory, profile, &mut record, 0, 0).status,
+    ];
+    assert_eq!(record, latches, "profile {profile}");
+    statuses
+}
+
+fn try_memory_lengths(profile: u8) {
     let mut memory = lent_bytes();
-    let latches = calls::fresh_latches();
     let mut tally = Tally::default();
     for length in 0..=memory.len() {
-        let lent = &mut memory[..length];
-        let statuses = [
-            calls::read(lent, latches, 0).status,
-            calls::write(lent, latches, 0, 0).status,
-            calls::write_in_place(lent, &mut latches.clone(), 0, 0).status,
-        ];
-        let number = u8::from(length != IMAGE_LENGTH);
-        assert_eq!(statuses, [number; 3], "{length} bytes of memory");
-        tally.count_all(&statuses);
+        let given = statuses(&mut memory[..length], profile, calls::fresh_latches());
+        let number = u8::from(length != image_length(profile));
+        assert_eq!(given, [number; 3], "{length} bytes of memory");
+        tally.count_all(&given);
     }
-    tally.finish("accesses to every length of memory up to 131,072");
+    tally.finish(&format!(
+        "profile {profile}, accesses to every length of memory up to 131,072"
+    ));
+}
+
+#[test]
+fn a_memory_length_taken_wrongly() {
+    in_each_profile(try_memory_lengths);
+}
+
+/// Every kind in a profile that takes those below `kinds`, and gives 13 for others up to 2.
+fn try_kinds(profile: u8, kinds: u8) {
+    let mut memory = lent_bytes();
+    let memory = &mut memory[..image_length(profile)];
+    let mut tally = Tally::default();
+    for kind in 0..=u8::MAX {
+        let latches = fresh_of_kind(kind);
+        let number = match kind {
+            3.. => 7,
+            _ if kind < kinds => 0,
+            _ => 13,
+        };
+        let decoded = calls::decode(profile, latches, 0).status;
+        assert_eq!(decoded, number, "kind {kind}");
+        let given = statuses(memory, profile, latches);
+        assert_eq!(given, [number; 3], "kind {kind}");
+        tally.count(decoded);
+        tally.count_all(&given);
+    }
+    tally.finish(&format!("profile {profile}, every kind"));
 }
 
 #[test]
 fn a_kind_taken_wrongly_by_some_call() {
+    try_kinds(PROFILE_48K, 3);
+    try_kinds(PROFILE_16K, 1);
+}
+
+#[test]
+fn a_profile_taken_wrongly_by_some_call() {
     let mut memory = lent_bytes();
-    let memory = &mut memory[..IMAGE_LENGTH];
+    let latches = calls::fresh_latches();
     let mut tally = Tally::default();
-    for kind in 0..=u8::MAX {
-        let latches = fresh_of_kind(kind);
-        let statuses = [
-            calls::decode(latches, 0).status,
-            calls::read(memory, latches, 0).status,
-            calls::write(memory, latches, 0, 0).status,
-            calls::write_in_place(memory, &mut latches.clone(), 0, 0).status,
-        ];
-        assert_eq!(statuses, [7 * u8::from(kind > 2); 4], "kind {kind}");
-        tally.count_all(&statuses);
+    for profile in 0..=u8::MAX {
+        for right in PROFILES {
+            let number = status_with_memory_of(right, profile);
+            let given = statuses(&mut memory[..image_length(right)], profile, latches);
+            assert_eq!(given, [number; 3], "profile {profile}");
+            tally.count_all(&given);
+        }
+        let decoded = calls::decode(profile, latches, 0).status;
+        assert_eq!(decoded, 12 * u8::from(profile > 1), "profile {profile}");
+        tally.count(decoded);
     }
-    tally.finish("every kind");
+    tally.finish("every profile");
 }
 
 #[test]

@@ -2,18 +2,25 @@
 
 use tropfenpfad::{Place, Refusal, Target};
 use tropfenpfad_conformance::calls;
-use tropfenpfad_conformance::refusals::{latches, lent_bytes, result, MEMORIES};
+use tropfenpfad_conformance::refusals::{boards, lent_bytes, memories, result};
 use tropfenpfad_sys::Latches;
 
-const ADDRESSES: [u16; 8] = [
-    0x0000, 0x0300, 0x0314, 0x0318, 0x03FA, 0x03FB, 0xBB80, 0xC123,
+const ADDRESSES: [u16; 9] = [
+    0x0000, 0x0300, 0x0314, 0x0318, 0x03FA, 0x03FB, 0x4300, 0xBB80, 0xC123,
 ];
 
-/// Every mix of a memory length, latches and an address.
-fn mixes() -> impl Iterator<Item = (usize, Latches, u16)> {
-    MEMORIES.each().flat_map(|(length, _)| {
-        latches().flat_map(move |(latches, _)| ADDRESSES.map(|address| (length, latches, address)))
+/// Every mix of a memory length, a profile, latches and an address.
+fn mixes() -> impl Iterator<Item = (usize, u8, Latches, u16)> {
+    boards().flat_map(|(profile, latches, _)| {
+        memories(profile).flat_map(move |(length, _)| {
+            ADDRESSES.map(|address| (length, profile, latches, address))
+        })
     })
+}
+
+/// Which of them it is.
+fn what(profile: u8, latches: Latches, address: u16) -> String {
+    format!("profile {profile}, {address:04x} under {latches:?}")
 }
 
 fn place(status: u8, target: u8, number: u16) -> Result<Place, Refusal> {
@@ -25,11 +32,11 @@ fn place(status: u8, target: u8, number: u16) -> Result<Place, Refusal> {
 
 #[test]
 fn a_decode_that_the_wrapper_gives_otherwise() {
-    for (_, latches, address) in mixes() {
-        let answer = calls::decode(latches, address);
+    for (_, profile, latches, address) in mixes() {
+        let answer = calls::decode(profile, latches, address);
         let expected = place(answer.status, answer.target, answer.number);
-        let given = tropfenpfad::decode(latches, address);
-        assert_eq!(given, expected, "{address:04x} under {latches:?}");
+        let given = tropfenpfad::decode(profile, latches, address);
+        assert_eq!(given, expected, "{}", what(profile, latches, address));
     }
     println!("wrapper of decode: {} calls compared", mixes().count());
 }
@@ -37,12 +44,12 @@ fn a_decode_that_the_wrapper_gives_otherwise() {
 #[test]
 fn a_read_that_the_wrapper_gives_otherwise() {
     let memory = lent_bytes();
-    for (length, latches, address) in mixes() {
-        let answer = calls::read(&memory[..length], latches, address);
+    for (length, profile, latches, address) in mixes() {
+        let answer = calls::read(&memory[..length], profile, latches, address);
         let expected = place(answer.status, answer.target, answer.number);
-        let given = tropfenpfad::read(&memory[..length], latches, address);
+        let given = tropfenpfad::read(&memory[..length], profile, latches, address);
         let expected = expected.map(|place| (place, answer.byte));
-        assert_eq!(given, expected, "{address:04x} under {latches:?}");
+        assert_eq!(given, expected, "{}", what(profile, latches, address));
     }
     println!("wrapper of read: {} calls compared", mixes().count());
 }
@@ -50,13 +57,15 @@ fn a_read_that_the_wrapper_gives_otherwise() {
 #[test]
 fn a_write_that_the_wrapper_gives_otherwise() {
     let [mut first, mut second] = [lent_bytes(), lent_bytes()];
-    for (byte, (length, latches, address)) in (0..=u8::MAX).cycle().zip(mixes()) {
-        let answer = calls::write(&mut first[..length], latches, address, byte);
+    for (byte, (length, profile, latches, address)) in (0..=u8::MAX).cycle().zip(mixes()) {
+        let what = what(profile, latches, address);
+        let answer = calls::write(&mut first[..length], profile, latches, address, byte);
         let expected = place(answer.status, answer.target, answer.number);
-        let given = tropfenpfad::write(&mut second[..length], latches, address, byte);
+        let lent = &mut second[..length];
+        let given = tropfenpfad::write(lent, profile, latches, address, byte);
         let expected = expected.map(|place| (place, answer.latches));
-        assert_eq!(given, expected, "{address:04x} under {latches:?}");
-        assert!(first == second, "{address:04x} under {latches:?}");
+        assert_eq!(given, expected, "{what}");
+        assert!(first == second, "{what}");
     }
     println!("wrapper of write: {} calls compared", mixes().count());
 }
@@ -64,17 +73,16 @@ fn a_write_that_the_wrapper_gives_otherwise() {
 #[test]
 fn a_write_in_place_that_the_wrapper_gives_otherwise() {
     let [mut first, mut second] = [lent_bytes(), lent_bytes()];
-    for (byte, (length, latches, address)) in (0..=u8::MAX).cycle().zip(mixes()) {
+    for (byte, (length, profile, latches, address)) in (0..=u8::MAX).cycle().zip(mixes()) {
+        let what = what(profile, latches, address);
         let [mut left, mut right] = [latches; 2];
-        let answer = calls::write_in_place(&mut first[..length], &mut left, address, byte);
+        let lent = &mut first[..length];
+        let answer = calls::write_in_place(lent, profile, &mut left, address, byte);
         let expected = place(answer.status, answer.target, answer.number);
-        let given = tropfenpfad::write_in_place(&mut second[..length], &mut right, address, byte);
-        assert_eq!(
-            (given, right),
-            (expected, left),
-            "{address:04x} under {latches:?}"
-        );
-        assert!(first == second, "{address:04x} under {latches:?}");
+        let lent = &mut second[..length];
+        let given = tropfenpfad::write_in_place(lent, profile, &mut right, address, byte);
+        assert_eq!((given, right), (expected, left), "{what}");
+        assert!(first == second, "{what}");
     }
     println!(
         "wrapper of write_in_place: {} calls compared",

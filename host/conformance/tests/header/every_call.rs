@@ -1,10 +1,12 @@
-//! Every call once or twice from C, and the same calls from Rust.
+//! Every call from C in both profiles, and the same calls from Rust.
 
 use std::process::Command;
 
 use tropfenpfad_conformance::calls;
+use tropfenpfad_conformance::inputs::fresh_of_kind;
 use tropfenpfad_sys::{
-    Access, Latches, Painted, State, FRAME_LENGTH, IMAGE_LENGTH, KIND_JASMIN, LINE_LENGTH,
+    Access, Latches, Painted, State, FRAME_LENGTH, IMAGE_LENGTH, IMAGE_LENGTH_16K, KIND_JASMIN,
+    KIND_NONE, LINE_LENGTH, PROFILE_16K, PROFILE_48K,
 };
 
 use crate::cc::{build, succeed};
@@ -15,7 +17,18 @@ fn a_call_from_c_that_answers_otherwise() {
     let program = build(EVERY_CALL, "every_call");
     let printed = succeed(&mut Command::new(program)).stdout;
     let mut memory: Vec<u8> = (0..IMAGE_LENGTH).map(|i| (i * 7 + i / 251) as u8).collect();
-    let expected = video(&memory) + &bus(&mut memory);
+    let mut frame = vec![0; FRAME_LENGTH];
+    let (whole, block) = (IMAGE_LENGTH, IMAGE_LENGTH_16K);
+    let expected = [
+        fresh(),
+        video(&memory[..whole], PROFILE_48K, &mut frame),
+        video(&memory[..block], PROFILE_16K, &mut frame),
+        video(&memory[..whole], 2, &mut frame),
+        bus(&mut memory[..whole], PROFILE_48K, KIND_JASMIN),
+        bus(&mut memory[..block], PROFILE_16K, KIND_NONE),
+        bus(&mut memory[..block], PROFILE_16K, KIND_JASMIN),
+    ]
+    .concat();
     assert_eq!(String::from_utf8_lossy(&printed), expected);
     println!(
         "calls from C: {} lines of answers compared",
@@ -27,31 +40,45 @@ fn painted(name: &str, answer: Painted, frame: &[u8]) -> String {
     let sum = frame
         .iter()
         .fold(0, |sum, &pixel| (sum * 31 + u64::from(pixel)) % 1_000_003);
+    let State {
+        mode,
+        counter,
+        profile,
+    } = answer.state;
     format!(
-        "{name} {} {} {} {} {} {sum}\n",
-        answer.status, answer.state.mode, answer.state.counter, answer.screen, answer.character
+        "{name} {} {mode} {counter} {profile} {} {} {sum}\n",
+        answer.status, answer.screen, answer.character
     )
 }
 
-fn video(memory: &[u8]) -> String {
-    let mut frame = vec![0; FRAME_LENGTH];
-    let fresh = calls::fresh_state();
-    let other = State {
+fn fresh() -> String {
+    let State {
+        mode,
+        counter,
+        profile,
+    } = calls::fresh_state();
+    let text = format!("fresh_state {mode} {counter} {profile}\n");
+    text + &latches("fresh_latches", calls::fresh_latches())
+}
+
+fn video(memory: &[u8], profile: u8, frame: &mut [u8]) -> String {
+    let state = State {
         mode: 5,
         counter: 30,
+        profile,
     };
-    let mut text = format!("fresh_state {} {}\n", fresh.mode, fresh.counter);
+    let mut text = String::new();
     for (line, column) in [(199, 39), (0, 40)] {
-        let place = calls::screen_address(line, column, 4);
+        let place = calls::screen_address(profile, line, column, 4);
         text += &format!("screen_address {} {}\n", place.status, place.address);
     }
     for line in [100, 224] {
-        let answer = calls::paint_line(memory, other, line, &mut frame[..LINE_LENGTH]);
-        text += &painted("paint_line", answer, &frame);
+        let answer = calls::paint_line(memory, state, line, &mut frame[..LINE_LENGTH]);
+        text += &painted("paint_line", answer, frame);
     }
-    for length in [IMAGE_LENGTH, 7] {
-        let answer = calls::paint_frame(&memory[..length], other, &mut frame);
-        text += &painted("paint_frame", answer, &frame);
+    for length in [memory.len(), 7] {
+        let answer = calls::paint_frame(&memory[..length], state, frame);
+        text += &painted("paint_frame", answer, frame);
     }
     text
 }
@@ -70,8 +97,8 @@ fn latches(name: &str, latches: Latches) -> String {
     )
 }
 
-fn write(memory: &mut [u8], record: Latches, address: u16) -> String {
-    let answer = calls::write(memory, record, address, 0x87);
+fn write(memory: &mut [u8], profile: u8, record: Latches, address: u16) -> String {
+    let answer = calls::write(memory, profile, record, address, 0x87);
     format!(
         "write {} {} {} {}\n{}",
         answer.status,
@@ -82,21 +109,19 @@ fn write(memory: &mut [u8], record: Latches, address: u16) -> String {
     )
 }
 
-fn bus(memory: &mut [u8]) -> String {
-    let mut record = calls::fresh_latches();
-    let mut text = latches("fresh_latches", record);
-    record.kind = KIND_JASMIN;
-    let place = calls::decode(record, 0xC123);
-    text += &format!(
+fn bus(memory: &mut [u8], profile: u8, kind: u8) -> String {
+    let mut record = fresh_of_kind(kind);
+    let place = calls::decode(profile, record, 0xC123);
+    let mut text = format!(
         "decode {} {} {}\n",
         place.status, place.target, place.number
     );
-    text += &access("read", calls::read(memory, record, 0x1234));
-    text += &write(memory, record, 0x03FB);
-    let answer = calls::write_in_place(memory, &mut record, 0x03FA, 0x01);
+    text += &access("read", calls::read(memory, profile, record, 0x5234));
+    text += &write(memory, profile, record, 0x03FB);
+    let answer = calls::write_in_place(memory, profile, &mut record, 0x03FA, 0x01);
     text += &access("write_in_place", answer);
     text += &latches("latches", record);
-    text += &write(memory, record, 0xC000);
-    text += &access("read", calls::read(memory, record, 0xC000));
+    text += &write(memory, profile, record, 0xC000);
+    text += &access("read", calls::read(memory, profile, record, 0xC000));
     text
 }

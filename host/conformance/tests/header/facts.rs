@@ -66,8 +66,12 @@ macro_rules! record {
     };
 }
 
+fn profiles(facts: &mut Facts) {
+    constants!(facts: PROFILE_48K, PROFILE_16K);
+}
+
 fn sizes(facts: &mut Facts) {
-    constants!(facts: IMAGE_LENGTH, COLUMNS, LINES, LINE_LENGTH, FRAME_LENGTH);
+    constants!(facts: IMAGE_LENGTH, IMAGE_LENGTH_16K, COLUMNS, LINES, LINE_LENGTH, FRAME_LENGTH);
 }
 
 fn refusals(facts: &mut Facts) {
@@ -79,7 +83,7 @@ fn refusals(facts: &mut Facts) {
 }
 
 fn video(facts: &mut Facts) {
-    record!(facts, "tropfenpfad_state", State: mode, counter);
+    record!(facts, "tropfenpfad_state", State: mode, counter, profile);
     record!(facts, "tropfenpfad_painted", Painted: status, state, screen, character);
     record!(facts, "tropfenpfad_address", Address: status, address);
 }
@@ -113,7 +117,7 @@ fn a_header_that_does_not_compile_alone() {
 #[test]
 fn a_record_or_constant_that_differs_in_the_header() {
     let mut facts = Facts::new();
-    for section in [sizes, refusals, video, bus] {
+    for section in [profiles, sizes, refusals, video, bus] {
         section(&mut facts);
     }
     let source = scratch("facts.c");

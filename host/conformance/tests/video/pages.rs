@@ -2,10 +2,11 @@
 
 use std::ptr;
 
-use tropfenpfad_conformance::calls;
 use tropfenpfad_conformance::guarded::{memories, outputs, Lent, SIDES};
 use tropfenpfad_conformance::images::{self, Kind};
-use tropfenpfad_conformance::inputs::{random_bytes, start_states};
+use tropfenpfad_conformance::inputs::{
+    fresh_of_profile, image_length, in_each_profile, random_bytes, start_states,
+};
 use tropfenpfad_conformance::model::Video;
 use tropfenpfad_sys::{
     self as ffi, Painted, State, FRAME_LENGTH, IMAGE_LENGTH, LINES, LINE_LENGTH,
@@ -20,28 +21,19 @@ const FRAME_LENGTHS: [usize; 6] = [
     FRAME_LENGTH + 1,
     IMAGE_LENGTH,
 ];
-const STATES: [State; 5] = [
-    State {
-        mode: 2,
-        counter: 0,
-    },
-    State {
-        mode: 6,
-        counter: 16,
-    },
-    State {
-        mode: 7,
-        counter: 31,
-    },
-    State {
-        mode: 8,
-        counter: 0,
-    },
-    State {
-        mode: 4,
-        counter: 32,
-    },
-];
+/// Modes with counters, right ones and wrong ones.
+const STATES: [(u8, u8); 5] = [(2, 0), (6, 16), (7, 31), (8, 0), (4, 32)];
+
+/// Each of them in both profiles and in a wrong one.
+fn states() -> impl Iterator<Item = State> {
+    (0..3).flat_map(|profile| {
+        STATES.map(|(mode, counter)| State {
+            mode,
+            counter,
+            profile,
+        })
+    })
+}
 
 fn paint_line(memory: &Lent, state: State, line: usize, output: &Lent) -> Painted {
     // SAFETY: both buffers are open for their lengths and lie in mappings of their own.
@@ -77,7 +69,7 @@ fn a_line_painter_that_leaves_its_buffers() {
     for memory in memories(Kind::Random) {
         memory.make_read_only();
         for output in &mut outputs(&LINE_LENGTHS) {
-            for state in STATES {
+            for state in states() {
                 for line in [0, 199, 200, 223, 224, usize::MAX] {
                     let answer = paint_line(&memory, state, line, output);
                     let due = model.paint_line(&memory.copy, state, line, &mut output.copy);
@@ -101,7 +93,7 @@ fn a_frame_painter_that_leaves_its_buffers() {
         for memory in memories(kind) {
             memory.make_read_only();
             for output in &mut outputs(&FRAME_LENGTHS) {
-                for state in STATES {
+                for state in states() {
                     let answer = paint_frame(&memory, state, output);
                     let due = model.paint_frame(&memory.copy, state, &mut output.copy);
                     assert_eq!(answer, due);
@@ -116,16 +108,15 @@ fn a_frame_painter_that_leaves_its_buffers() {
     println!("frames in guarded buffers: {calls} calls compared, {refused} with bad inputs");
 }
 
-#[test]
-fn a_line_that_is_painted_beyond_its_240_bytes() {
+fn paint_every_line(profile: u8) {
     let model = Video::new();
     let mut calls = 0;
     for side in SIDES {
-        let memory = Lent::new(side, images::image(Kind::Modes, 3));
+        let memory = Lent::new(side, images::image(profile, Kind::Modes, 3));
         let mut output = Lent::new(side, random_bytes(3, LINE_LENGTH));
         memory.make_read_only();
         for line in 0..LINES {
-            for state in start_states() {
+            for state in start_states(profile) {
                 let answer = paint_line(&memory, state, line, &output);
                 let due = model.paint_line(&memory.copy, state, line, &mut output.copy);
                 assert_eq!(answer, due);
@@ -134,26 +125,36 @@ fn a_line_that_is_painted_beyond_its_240_bytes() {
             }
         }
     }
-    println!("every line in guarded buffers: {calls} paintings compared");
+    println!("profile {profile}, every line in guarded buffers: {calls} paintings compared");
 }
 
 #[test]
-fn a_null_pointer_of_length_0_that_is_followed() {
-    let state = calls::fresh_state();
-    let image = images::image(Kind::Random, 4);
+fn a_line_that_is_painted_beyond_its_240_bytes() {
+    in_each_profile(paint_every_line);
+}
+
+fn lend_null_pointers(profile: u8) {
+    let state = fresh_of_profile(profile);
+    let image = images::image(profile, Kind::Random, 4);
+    let (memory, length) = (image.as_ptr(), image_length(profile));
     let mut output = [0; LINE_LENGTH];
     let (read, write) = (ptr::null::<u8>(), ptr::null_mut::<u8>());
     // SAFETY: a null pointer comes with the length 0 only.
     unsafe {
         let line = ffi::tropfenpfad_paint_line(read, 0, state, 0, output.as_mut_ptr(), 240);
         assert_eq!(line.status, 1);
-        let line = ffi::tropfenpfad_paint_line(image.as_ptr(), 65536, state, 0, write, 0);
+        let line = ffi::tropfenpfad_paint_line(memory, length, state, 0, write, 0);
         assert_eq!(line.status, 2);
         let frame = ffi::tropfenpfad_paint_frame(read, 0, state, write, 0);
         assert_eq!(frame.status, 1);
-        let frame = ffi::tropfenpfad_paint_frame(image.as_ptr(), 65536, state, write, 0);
+        let frame = ffi::tropfenpfad_paint_frame(memory, length, state, write, 0);
         assert_eq!(frame.status, 2);
     }
     assert_eq!(output, [0; LINE_LENGTH]);
-    println!("null pointers to paint from or to: 4 bad inputs compared");
+    println!("profile {profile}, null pointers to paint from or to: 4 bad inputs compared");
+}
+
+#[test]
+fn a_null_pointer_of_length_0_that_is_followed() {
+    in_each_profile(lend_null_pointers);
 }

@@ -3,7 +3,9 @@
 use tropfenpfad_conformance::calls;
 use tropfenpfad_conformance::compare::assert_same_bytes;
 use tropfenpfad_conformance::images::{self, Kind};
-use tropfenpfad_conformance::inputs::{all_states, start_states, MODES};
+use tropfenpfad_conformance::inputs::{
+    all_states, image_length, in_each_profile, start_states, MODES,
+};
 use tropfenpfad_conformance::model::{planes, Video};
 use tropfenpfad_conformance::random::Xorshift;
 use tropfenpfad_sys::{State, COLUMNS, FRAME_LENGTH, LINES, LINE_LENGTH};
@@ -51,31 +53,36 @@ impl Bench {
     }
 }
 
-#[test]
-fn a_line_painted_otherwise() {
+fn compare_lines(profile: u8) {
     let mut bench = Bench::new();
     let mut paintings = 0;
     for kind in Kind::ALL {
         for seed in 0..4 {
-            let memory = images::image(kind, 1_000_000 + seed);
+            let memory = images::image(profile, kind, 1_000_000 + seed);
             for line in 0..LINES {
-                for state in start_states() {
+                for state in start_states(profile) {
                     bench.line(&format!("{kind:?} image {seed}"), &memory, state, line);
                     paintings += 1;
                 }
             }
         }
     }
-    println!("lines: {paintings} paintings compared, every line, mode and phase");
+    println!(
+        "profile {profile}, lines: {paintings} paintings compared, every line, mode and phase"
+    );
 }
 
 #[test]
-fn a_mode_or_counter_taken_otherwise() {
+fn a_line_painted_otherwise() {
+    in_each_profile(compare_lines);
+}
+
+fn compare_states(profile: u8) {
     let mut bench = Bench::new();
     let mut paintings = 0;
     for kind in Kind::ALL {
-        let memory = images::image(kind, 2_000_000);
-        for state in all_states() {
+        let memory = images::image(profile, kind, 2_000_000);
+        for state in all_states(profile) {
             let after = bench.frame(&format!("{kind:?} image"), &memory, state);
             assert_eq!(after.counter, (state.counter + 1) % 32);
             for line in [0, 199, 200, 223] {
@@ -86,16 +93,20 @@ fn a_mode_or_counter_taken_otherwise() {
             paintings += 1;
         }
     }
-    println!("states: {paintings} paintings compared, all 256 states");
+    println!("profile {profile}, states: {paintings} paintings compared, all 256 states");
 }
 
 #[test]
-fn a_frame_that_is_not_its_lines() {
+fn a_mode_or_counter_taken_otherwise() {
+    in_each_profile(compare_states);
+}
+
+fn compare_frames_with_lines(profile: u8) {
     let mut bench = Bench::new();
     let mut paintings = 0;
     for kind in Kind::ALL {
-        for (seed, state) in start_states().enumerate() {
-            let memory = images::image(kind, 3_000_000 + seed as u64);
+        for (seed, state) in start_states(profile).enumerate() {
+            let memory = images::image(profile, kind, 3_000_000 + seed as u64);
             let after = bench.frame(&format!("{kind:?} image {seed}"), &memory, state);
             let mut reached = state;
             for line in 0..LINES {
@@ -109,55 +120,68 @@ fn a_frame_that_is_not_its_lines() {
             paintings += 1;
         }
     }
-    println!("frames against their lines: {paintings} paintings compared");
+    println!("profile {profile}, frames against their lines: {paintings} paintings compared");
 }
 
 #[test]
-fn a_screen_address_given_otherwise() {
+fn a_frame_that_is_not_its_lines() {
+    in_each_profile(compare_frames_with_lines);
+}
+
+fn compare_screen_addresses(profile: u8) {
     let model = Video::new();
     let mut addresses = 0;
     for line in 0..LINES {
         for column in 0..COLUMNS {
             for mode in 0..MODES {
-                let library = calls::screen_address(line, column, mode);
-                let model = model.screen_address(line, column, mode);
+                let library = calls::screen_address(profile, line, column, mode);
+                let model = model.screen_address(profile, line, column, mode);
                 assert_eq!(library, model, "line {line}, column {column}, mode {mode}");
                 addresses += 1;
             }
         }
     }
-    println!("screen addresses: {addresses} compared");
+    println!("profile {profile}, screen addresses: {addresses} compared");
 }
 
 #[test]
-fn a_frame_that_hangs_on_bytes_video_never_reads() {
+fn a_screen_address_given_otherwise() {
+    in_each_profile(compare_screen_addresses);
+}
+
+fn change_unread_bytes(profile: u8) {
     let mut bench = Bench::new();
     let mut generator = Xorshift::new(4);
+    let [first, past] = [0x9800, 0xBFE0].map(|address| address % image_length(profile));
     let mut paintings = 0;
     for kind in Kind::ALL {
-        for (seed, state) in start_states().enumerate() {
-            let mut memory = images::image(kind, 4_000_000 + seed as u64);
+        for (seed, state) in start_states(profile).enumerate() {
+            let mut memory = images::image(profile, kind, 4_000_000 + seed as u64);
             let after = bench.frame(&format!("{kind:?} image {seed}"), &memory, state);
             let before = bench.frames[0].clone();
-            generator.fill(&mut memory[..0x9800]);
-            generator.fill(&mut memory[0xBFE0..]);
+            generator.fill(&mut memory[..first]);
+            generator.fill(&mut memory[past..]);
             let again = bench.frame(&format!("{kind:?} image {seed}"), &memory, state);
             assert_eq!(after, again);
             assert_same_bytes("after a change out of reach", &bench.frames[0], &before);
             paintings += 2;
         }
     }
-    println!("unread bytes: {paintings} paintings compared");
+    println!("profile {profile}, unread bytes: {paintings} paintings compared");
 }
 
 #[test]
-fn two_independent_painters_that_disagree() {
+fn a_frame_that_hangs_on_bytes_video_never_reads() {
+    in_each_profile(change_unread_bytes);
+}
+
+fn compare_models(profile: u8) {
     let model = Video::new();
     let [mut first, mut second] = [vec![0; FRAME_LENGTH], vec![0xFF; FRAME_LENGTH]];
     let mut compared = 0;
     for kind in Kind::ALL {
-        for (seed, state) in (0..).zip(start_states()) {
-            let memory = images::image(kind, seed);
+        for (seed, state) in (0..).zip(start_states(profile)) {
+            let memory = images::image(profile, kind, seed);
             let tables = model.paint_frame(&memory, state, &mut first);
             let planes = planes::paint_frame(&memory, state, &mut second);
             assert_eq!(tables, planes, "{kind:?} from {state:?}");
@@ -165,7 +189,12 @@ fn two_independent_painters_that_disagree() {
             compared += 1;
         }
     }
-    println!("{compared} frames by tables and by planes are equal");
+    println!("profile {profile}, {compared} frames by tables and by planes are equal");
+}
+
+#[test]
+fn two_independent_painters_that_disagree() {
+    in_each_profile(compare_models);
 }
 
 /// What `make check` leaves out.
@@ -174,21 +203,19 @@ mod long {
 
     use tropfenpfad_conformance::compare::fingerprint;
     use tropfenpfad_conformance::inputs::COUNTERS;
-    use tropfenpfad_sys::IMAGE_LENGTH;
 
     use super::*;
 
     /// Seeds for each kind and each start state.
     const SEEDS: u64 = 80;
 
-    #[test]
-    fn a_frame_painted_otherwise() {
+    fn compare_frames(profile: u8) {
         let mut bench = Bench::new();
-        let mut memory = vec![0; IMAGE_LENGTH];
+        let mut memory = vec![0; image_length(profile)];
         let mut different = HashSet::new();
         let mut paintings = 0;
         for kind in Kind::ALL {
-            for (index, state) in start_states().enumerate() {
+            for (index, state) in start_states(profile).enumerate() {
                 for seed in 0..SEEDS {
                     let seed = index as u64 * SEEDS + seed;
                     images::generate(kind, seed, &mut memory);
@@ -199,10 +226,15 @@ mod long {
             }
         }
         println!(
-            "frames: {paintings} paintings compared, {} different frames, {} modes, counters {COUNTERS:?}",
+            "profile {profile}, frames: {paintings} paintings compared, {} different frames, \
+             {MODES} modes, counters {COUNTERS:?}",
             different.len(),
-            MODES
         );
         assert!(different.len() >= 20_000, "the images are too much alike");
+    }
+
+    #[test]
+    fn a_frame_painted_otherwise() {
+        in_each_profile(compare_frames);
     }
 }

@@ -3,7 +3,8 @@
 use tropfenpfad::{Painting, Refusal};
 use tropfenpfad_conformance::calls;
 use tropfenpfad_conformance::refusals::{
-    lent_bytes, result, states, COLUMNS, FRAME_OUTPUTS, LINES, LINE_OUTPUTS, MEMORIES, MODES,
+    lent_bytes, memories, result, states, COLUMNS, FRAME_OUTPUTS, LINES, LINE_OUTPUTS, MODES,
+    PROFILES,
 };
 use tropfenpfad_sys::Painted;
 
@@ -20,9 +21,9 @@ fn a_line_that_the_wrapper_gives_otherwise() {
     let memory = lent_bytes();
     let [mut first, mut second] = [lent_bytes(), lent_bytes()];
     let mut compared = 0;
-    for (length, _) in MEMORIES.each() {
-        for (room, _) in LINE_OUTPUTS.each() {
-            for (state, _) in states() {
+    for (state, _) in states() {
+        for (length, _) in memories(state.profile) {
+            for (room, _) in LINE_OUTPUTS.each() {
                 for (line, _) in LINES.each() {
                     let lent = &memory[..length];
                     let answer = calls::paint_line(lent, state, line, &mut first[..room]);
@@ -43,9 +44,9 @@ fn a_frame_that_the_wrapper_gives_otherwise() {
     let memory = lent_bytes();
     let [mut first, mut second] = [lent_bytes(), lent_bytes()];
     let mut compared = 0;
-    for (length, _) in MEMORIES.each() {
-        for (room, _) in FRAME_OUTPUTS.each() {
-            for (state, _) in states() {
+    for (state, _) in states() {
+        for (length, _) in memories(state.profile) {
+            for (room, _) in FRAME_OUTPUTS.each() {
                 let lent = &memory[..length];
                 let answer = calls::paint_frame(lent, state, &mut first[..room]);
                 let given = tropfenpfad::paint_frame(lent, state, &mut second[..room]);
@@ -61,13 +62,15 @@ fn a_frame_that_the_wrapper_gives_otherwise() {
 #[test]
 fn a_screen_address_that_the_wrapper_gives_otherwise() {
     let mut compared = 0;
-    for (mode, _) in MODES.each() {
-        for (line, _) in LINES.each() {
-            for (column, _) in COLUMNS.each() {
-                let answer = calls::screen_address(line, column, mode);
-                let given = tropfenpfad::screen_address(line, column, mode);
-                assert_eq!(given, result(answer.status).map(|()| answer.address));
-                compared += 1;
+    for (profile, _) in PROFILES.each() {
+        for (mode, _) in MODES.each() {
+            for (line, _) in LINES.each() {
+                for (column, _) in COLUMNS.each() {
+                    let answer = calls::screen_address(profile, line, column, mode);
+                    let given = tropfenpfad::screen_address(profile, line, column, mode);
+                    assert_eq!(given, result(answer.status).map(|()| answer.address));
+                    compared += 1;
+                }
             }
         }
     }

@@ -5,7 +5,7 @@ use std::time::Instant;
 
 use tropfenpfad_conformance::calls;
 use tropfenpfad_conformance::images::{self, Kind};
-use tropfenpfad_sys::FRAME_LENGTH;
+use tropfenpfad_sys::{FRAME_LENGTH, PROFILE_48K};
 
 use crate::row::ROUNDS;
 use crate::table::Table;
@@ -19,7 +19,7 @@ pub fn print() {
     println!(
         "One text image painted over and over by the library, the state handed on. Microseconds."
     );
-    let memory = images::image(Kind::Text, 1);
+    let memory = images::image(PROFILE_48K, Kind::Text, 1);
     let mut frame = vec![0; FRAME_LENGTH];
     let table = Table::begin(6, &["frames", "    all", "a frame"]);
     for frames in FRAMES {

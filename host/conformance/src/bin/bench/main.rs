@@ -2,7 +2,9 @@
 //! run, and each figure is the best of several.
 
 mod bus;
+mod contest;
 mod frames;
+mod frames_16k;
 mod growth;
 mod head;
 mod row;
@@ -14,6 +16,7 @@ use row::Rows;
 fn main() {
     head::print();
     frames::print();
+    frames_16k::print();
     let rows = Rows::begin();
     video::rows(&rows);
     bus::rows(&rows);

@@ -12,9 +12,14 @@ const UNASSIGNED: u8 = 6;
 /// In a map: look into page 3.
 const INSIDE: u8 = 7;
 
-/// The address bits that are the number, by target. Each target's range starts at a multiple of
-/// its mask plus one, so that the bits left are the address less that start.
-const NUMBER_BITS: [u16; 8] = [0xFFFF, 0x000F, 0x00FF, 0x3FFF, 0xFFFF, 0x3FFF, 0x00FF, 0];
+/// The address bits that are the number, by profile and target.
+const NUMBER_BITS: [[u16; 8]; 2] = [number_bits(0xFFFF), number_bits(0x3FFF)];
+
+/// By target, those of RAM given. Each other target's range starts at a multiple of its mask plus
+/// one, so that the bits left are the address less that start.
+const fn number_bits(ram: u16) -> [u16; 8] {
+    [ram, 0x000F, 0x00FF, 0x3FFF, 0xFFFF, 0x3FFF, 0x00FF, 0]
+}
 
 const NO_LATCH: u8 = 0;
 const FIRST: u8 = 1;
@@ -49,15 +54,16 @@ impl Decoder {
         }
     }
 
-    /// The target and its number; the kind is known to be 0 to 2.
+    /// The target and its number; the profile is known to be 0 or 1, the kind 0 to 2.
     #[inline]
-    pub(super) fn decode(&self, latches: Latches, address: u16) -> (u8, u16) {
+    pub(super) fn decode(&self, profile: u8, latches: Latches, address: u16) -> (u8, u16) {
         let page = usize::from(address >> 8);
         let mut target = self.maps[usize::from(self.upper(latches))][page];
         if target == INSIDE {
             target = self.page3[usize::from(latches.kind)].target[usize::from(address & 0xFF)];
         }
-        (target, address & NUMBER_BITS[usize::from(target)])
+        let bits = NUMBER_BITS[usize::from(profile)][usize::from(target)];
+        (target, address & bits)
     }
 
     /// Takes the byte into the latch that is written at the address, if one is.

@@ -3,12 +3,13 @@
 
 use tropfenpfad_sys::{COLUMNS, LINE_LENGTH};
 
-use super::Image;
+use super::Block;
 
-const TEXT_SCREEN: usize = 0xBB80;
-const HIRES_SCREEN: usize = 0xA000;
-const TEXT_SET: usize = 0xB400;
-const HIRES_SET: usize = 0x9800;
+// Places in the block, whose first address is 8000 in the 48K machine.
+const TEXT_SCREEN: usize = 0xBB80 - 0x8000;
+const HIRES_SCREEN: usize = 0xA000 - 0x8000;
+const TEXT_SET: usize = 0xB400 - 0x8000;
+const HIRES_SET: usize = 0x9800 - 0x8000;
 const ALTERNATE_SET: usize = 0x400;
 const BITMAP_LINES: usize = 200;
 
@@ -57,7 +58,7 @@ pub(super) struct Painter {
 /// What one line is painted with.
 struct Line<'a> {
     painter: &'a Painter,
-    memory: &'a Image,
+    block: &'a Block,
     colours: &'a [Colours; 128],
     definitions: &'a [u16; 32],
     /// All ones where a hires byte is its own pattern.
@@ -81,16 +82,16 @@ impl Painter {
     #[inline]
     pub(super) fn line(
         &self,
-        memory: &Image,
+        block: &Block,
         line: usize,
         mode: u8,
         counter: u8,
         output: &mut Pixels,
     ) -> (u8, u32) {
-        let [text, hires] = line_starts(line).map(|start| row(memory, start));
+        let [text, hires] = line_starts(line).map(|start| row(block, start));
         let work = Line {
             painter: self,
-            memory,
+            block,
             colours: &self.colours[usize::from(counter >> 4 & 1)],
             definitions: &self.definitions[line & 15],
             bitmap: if line < BITMAP_LINES { 0xFF } else { 0 },
@@ -166,7 +167,7 @@ impl Line<'_> {
     #[inline(always)]
     fn definition(&self, word: Word, byte: u8) -> u8 {
         let base = self.definitions[(word >> ALTERNATE) as usize & 31];
-        self.memory[(usize::from(base) + 8 * usize::from(byte & 0x7F)) & 0xFFFF]
+        self.block[(usize::from(base) + 8 * usize::from(byte & 0x7F)) & 0x3FFF]
     }
 
     /// Six pixels, from the registers that the cell's own byte has left.
@@ -241,7 +242,7 @@ fn definitions(line: usize) -> [u16; 32] {
     })
 }
 
-/// Where column 0 of a line stands: in text, in hires.
+/// Where column 0 of a line stands in the block: in text, in hires.
 pub(super) fn line_starts(line: usize) -> [usize; 2] {
     let text = TEXT_SCREEN + COLUMNS * (line >> 3);
     if line < BITMAP_LINES {
@@ -251,8 +252,8 @@ pub(super) fn line_starts(line: usize) -> [usize; 2] {
     }
 }
 
-fn row(memory: &Image, start: usize) -> &Row {
-    memory[start..start + COLUMNS]
+fn row(block: &Block, start: usize) -> &Row {
+    block[start..start + COLUMNS]
         .try_into()
         .expect("forty bytes")
 }
