@@ -26,7 +26,7 @@ use Rattle.video.proofs.Readings.{screens-length}
 use Rattle.video.specs.declared.registers.Registers.{Registers}
 use Rattle.video.specs.declared.state.State.{State}
 
--- a folded address is folded no further than into the block
+-- what a profile has folded first, the 16K machine folds to the same
 folded-twice : (profile address : ℕ) → folded 1 (folded profile address) ≡ folded 1 address
 folded-twice profile address =
     cond-all (λ (n : ℕ). folded 1 n ≡ folded 1 address) (is16K profile) (address % blockLength) address (omega arith) refl
