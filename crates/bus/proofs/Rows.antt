@@ -1,8 +1,8 @@
 -- The rows of the decode table: where an address lies decides which of the areas it reaches.
 -- Assumes nothing.
 use Prim.Native.Nat.{ℕ, _≤_, _<_}
-use mathlib.Core.Bool.{Bool, true, false}
-use mathlib.Core.Path.{_≡_, refl}
+use mathlib.Core.Bool.{Bool, true, false, cond}
+use mathlib.Core.Path.{_≡_, refl, ap}
 use native.Mathlib.Omega.{arith}
 use lib.Dec.{leb}
 use borrow.Author.Tests.{le-leb, lt-leb, leb-true}
@@ -29,7 +29,8 @@ module _ (low high a : ℕ) where
 
 module _ (a : ℕ) where
   pub in-upper : 0xC000 ≤ a → (profile : ℕ) (pageThree upper : Place) → areas profile pageThree upper a ≡ upper
-  in-upper h profile pageThree upper = simp (le-leb 0xC000 a h)
+  in-upper h profile pageThree upper =
+      ap (λ (b : Bool). cond b upper (cond (between 0x300 0x3FF a) pageThree (ram profile a))) (le-leb 0xC000 a h)
 
   pub in-page-three : Within 0x300 0x3FF a → (profile : ℕ) (pageThree upper : Place) → areas profile pageThree upper a ≡ pageThree
   in-page-three h profile pageThree upper = simp (lt-leb 0xC000 a (omega arith), within 0x300 0x3FF a h)
