@@ -2,7 +2,7 @@
 -- Assumes nothing.
 use Prim.Native.Nat.{ℕ, _≤_, _<_}
 use mathlib.Core.Bool.{Bool, true, false, cond}
-use mathlib.Core.Path.{_≡_, refl, ap}
+use mathlib.Core.Path.{_≡_, refl}
 use native.Mathlib.Omega.{arith}
 use lib.Dec.{leb}
 use borrow.Author.Tests.{le-leb, lt-leb, leb-true}
@@ -27,10 +27,12 @@ module _ (low high a : ℕ) where
       go true e = simp (e, lt-leb a high (h (leb-true low a e)))
       go false e = simp e
 
+taken : (test : Bool) (x y : Place) → test ≡ true → cond test x y ≡ x
+taken test x y e = simp e
+
 module _ (a : ℕ) where
   pub in-upper : 0xC000 ≤ a → (profile : ℕ) (pageThree upper : Place) → areas profile pageThree upper a ≡ upper
-  in-upper h profile pageThree upper =
-      ap (λ (b : Bool). cond b upper (cond (between 0x300 0x3FF a) pageThree (ram profile a))) (le-leb 0xC000 a h)
+  in-upper h profile pageThree upper = taken _ upper _ (le-leb 0xC000 a h)
 
   pub in-page-three : Within 0x300 0x3FF a → (profile : ℕ) (pageThree upper : Place) → areas profile pageThree upper a ≡ pageThree
   in-page-three h profile pageThree upper = simp (lt-leb 0xC000 a (omega arith), within 0x300 0x3FF a h)
