@@ -1,4 +1,4 @@
-//! The library's painter against the model: every pixel, the state and both counts.
+//! The library's painter against the models: every pixel, the state and both counts.
 
 use tropfenpfad_conformance::calls;
 use tropfenpfad_conformance::compare::assert_same_bytes;
@@ -10,10 +10,10 @@ use tropfenpfad_conformance::model::{planes, Video};
 use tropfenpfad_conformance::random::Xorshift;
 use tropfenpfad_sys::{State, COLUMNS, FRAME_LENGTH, LINES, LINE_LENGTH};
 
-/// Both painters, each with a frame and a line of its own that hold other bytes before.
+/// The painters, each with a frame and a line of its own that hold other bytes before.
 struct Bench {
     model: Video,
-    frames: [Vec<u8>; 2],
+    frames: [Vec<u8>; 3],
     lines: [[u8; LINE_LENGTH]; 2],
 }
 
@@ -21,25 +21,30 @@ impl Bench {
     fn new() -> Self {
         Bench {
             model: Video::new(),
-            frames: [vec![0; FRAME_LENGTH], vec![0; FRAME_LENGTH]],
+            frames: std::array::from_fn(|_| vec![0; FRAME_LENGTH]),
             lines: [[0; LINE_LENGTH]; 2],
         }
     }
 
-    /// Paints a frame with both, compares all of it, and gives the state afterwards.
+    /// Paints a frame with the library, by tables and by planes, compares all of it, and gives the
+    /// state afterwards.
     fn frame(&mut self, what: &str, memory: &[u8], state: State) -> State {
-        let [first, second] = &mut self.frames;
+        let [first, second, third] = &mut self.frames;
         first.fill(0xA5);
         second.fill(0x5A);
+        third.fill(0x96);
         let library = calls::paint_frame(memory, state, first);
-        let model = self.model.paint_frame(memory, state, second);
-        assert_eq!(library, model, "{what} from {state:?}");
+        let tables = self.model.paint_frame(memory, state, second);
+        let planes = planes::paint_frame(memory, state, third);
+        assert_eq!(library, tables, "{what} from {state:?}, by tables");
+        assert_eq!(library, planes, "{what} from {state:?}, by planes");
         assert_eq!(library.status, 0, "{what} from {state:?}");
-        assert_same_bytes(what, first, second);
+        assert_same_bytes(&format!("{what}, by tables"), first, second);
+        assert_same_bytes(&format!("{what}, by planes"), first, third);
         library.state
     }
 
-    /// Paints a line with both, compares all of it, and gives the state afterwards.
+    /// Paints a line with the library and by tables, compares all of it, and gives the state afterwards.
     fn line(&mut self, what: &str, memory: &[u8], state: State, line: usize) -> State {
         let [first, second] = &mut self.lines;
         first.fill(0xA5);
@@ -173,28 +178,6 @@ fn change_unread_bytes(profile: u8) {
 #[test]
 fn a_frame_that_hangs_on_bytes_video_never_reads() {
     in_each_profile(change_unread_bytes);
-}
-
-fn compare_models(profile: u8) {
-    let model = Video::new();
-    let [mut first, mut second] = [vec![0; FRAME_LENGTH], vec![0xFF; FRAME_LENGTH]];
-    let mut compared = 0;
-    for kind in Kind::ALL {
-        for (seed, state) in (0..).zip(start_states(profile)) {
-            let memory = images::image(profile, kind, seed);
-            let tables = model.paint_frame(&memory, state, &mut first);
-            let planes = planes::paint_frame(&memory, state, &mut second);
-            assert_eq!(tables, planes, "{kind:?} from {state:?}");
-            assert_same_bytes("a frame by planes", &first, &second);
-            compared += 1;
-        }
-    }
-    println!("profile {profile}, {compared} frames by tables and by planes are equal");
-}
-
-#[test]
-fn two_independent_painters_that_disagree() {
-    in_each_profile(compare_models);
 }
 
 /// What `make check` leaves out.
