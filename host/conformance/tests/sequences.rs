@@ -188,14 +188,17 @@ fn leave_every_mode(profile: u8) {
     for start in all_states(profile) {
         for mode in 0..MODES {
             memory[screen_byte(profile)] = 0x18 | mode;
-            let [first, second] = &mut frames;
-            let ended = calls::paint_frame(&memory, start, first);
-            assert_eq!(ended.state.mode, mode);
-            let library = calls::paint_frame(&memory, ended.state, first);
-            let other = model.paint_frame(&memory, ended.state, second);
-            assert_eq!(library, other);
-            assert_same_bytes("the frame after", first, second);
-            paintings += 2;
+            let mut state = start;
+            for what in ["the frame", "the frame after"] {
+                let [first, second] = &mut frames;
+                let library = calls::paint_frame(&memory, state, first);
+                let other = model.paint_frame(&memory, state, second);
+                assert_eq!(library, other);
+                assert_same_bytes(what, first, second);
+                assert_eq!(library.state.mode, mode);
+                state = library.state;
+                paintings += 1;
+            }
         }
     }
     println!("profile {profile}, modes left and taken up: {paintings} paintings compared");
