@@ -5,10 +5,12 @@ ghost use Rattle.video.specs.Answer.{addressAnswer, lineAnswer, lineContents, f
 ghost use Rattle.bus.specs.Cycle.{readAnswer, writeAnswer, writeContents, writeLatches, written};
 ghost use Rattle.bus.specs.Latch.{freshLatches};
 ghost use Rattle.bus.specs.Place.{decodeAnswer};
+ghost use Rattle.compare.specs.Answer.{compareAnswer, countsLeft, cellsLeft};
 use bus::Access;
 use bus::Decoded;
 use bus::Latches;
 use bus::Written;
+use compare::Comparison;
 use video::Address;
 use video::Painted;
 use video::State;
@@ -106,4 +108,18 @@ pub extern "C" fn tropfenpfad_write_in_place(
     ensures { λ r. ⌜ now (latches .exit) ≡ writeLatches (now (memory .entry)) profile (now (latches .entry)) address byte ⌝ }
 {
     bus::write_in_place(memory, profile, latches, address, byte)
+}
+
+#[no_mangle]
+pub extern "C" fn tropfenpfad_compare(
+    first: &[u8],
+    second: &[u8],
+    line_counts: &mut [u16],
+    cells: &mut [u16],
+) -> Comparison
+    ensures { λ r. ⌜ r ≡ compareAnswer (now (first .entry)) (now (second .entry)) (now («line_counts» .entry)) (now (cells .entry)) ⌝ }
+    ensures { λ r. ⌜ now («line_counts» .exit) ≡ countsLeft (now (first .entry)) (now (second .entry)) (now («line_counts» .entry)) (now (cells .entry)) ⌝ }
+    ensures { λ r. ⌜ now (cells .exit) ≡ cellsLeft (now (first .entry)) (now (second .entry)) (now («line_counts» .entry)) (now (cells .entry)) ⌝ }
+{
+    compare::compare(first, second, line_counts, cells)
 }

@@ -1,0 +1,101 @@
+-- What was found line by line and cell by cell is what the definitions say of all the places at once.
+-- Assumes nothing.
+use Prim.Native.Nat.{ℕ, zero, suc, _+_, _*_, _≤_, _<_, min, max}
+use mathlib.Core.Bool.{Bool, cond}
+use mathlib.Core.List.{List, [], _∷_, _++_, map, foldl}
+use mathlib.Core.Path.{_≡_, refl, sym, ap, ap₂, _∙_}
+use native.Mathlib.Omega.{arith}
+use lib.Dec.{eqb, ltb, eqb·suc-zero}
+use lib.ListN.{length, length-map, replicate}
+use Rattle.machine.specs.Lists.{gather, Each}
+use Rattle.machine.specs.Sizes.{cellLength, columns, lines, lineLength, frameLength}
+use Rattle.machine.proofs.Each.{each-map, each-head}
+use Rattle.compare.specs.Answer.{listLength, noCell, report, lineCounts, listed}
+use Rattle.compare.specs.Internal.{linePlaces, cellPlaces, hasPlace, cellsWith, foundWith, nothing, foundIn, countsIn, listedIn, Small, reported}
+use Rattle.compare.specs.Numbers.{passing, passingFrom, least, greatest}
+use Rattle.compare.specs.Places.{xOf, lineOf, cellOf, differs, differences, onLine, inCell, cellDiffers, differingCells}
+use Rattle.compare.proofs.Numbers.{one-piece, start-pieces, from-none, from-each, from-most, from-same}
+use Rattle.compare.proofs.Picks.{AtLeast, rising, falling, fold-first, fold-bound, fold-picked}
+
+-- the start of a search for the least does not matter where there is one, and where there is none 0 stands for it
+least-found : (b : ℕ) (ns : List ℕ) → Each (λ (n : ℕ). n ≤ b) ns → cond (eqb (length ns) 0) 0 (foldl min b ns) ≡ least ns
+least-found b [] p = refl
+least-found b (n ∷ ns) p = rw (eqb·suc-zero (length ns)) (fold-picked rising b n ns (each-head (λ (m : ℕ). m ≤ b) n ns p))
+
+greatest-found : (ns : List ℕ) → foldl max 0 ns ≡ greatest ns
+greatest-found [] = refl
+greatest-found (n ∷ ns) = fold-picked falling 0 n ns (omega arith)
+
+-- one list for each number below a bound, each with one element
+gather-same : (f g : ℕ → ℕ) (n : ℕ) → ((k : ℕ) → k < n → f k ≡ g k) → gather (λ (k : ℕ). f k ∷ []) n ≡ gather (λ (k : ℕ). g k ∷ []) n
+unfolding gather
+gather-same f g zero same = refl
+gather-same f g (suc n) same = ap₂ (λ (l : List ℕ) (k : ℕ). l ++ (k ∷ [])) (gather-same f g n (λ k h. same k (omega arith))) (same n (omega arith))
+
+module _ (first second : List ℕ) where
+  abbrev places : List ℕ
+  places = differences first second
+
+  -- the places of one cell, and of one line, are those that were compared there
+  in-cell : (cell : ℕ) → cell < columns * lines → inCell places cell ≡ cellPlaces first second cell
+  in-cell cell h =
+      ap (passing (λ (place : ℕ). eqb (cellOf place) cell)) (start-pieces (differs first second) cellLength (columns * lines))
+      ∙ one-piece cellOf (cellPlaces first second) (columns * lines)
+      (λ i less. from-each (differs first second) (λ (place : ℕ). cellOf place ≡ i) (cellLength * i) cellLength (λ k h′ e. omega arith)) cell h
+
+  on-line : (line : ℕ) → line < lines → onLine places line ≡ linePlaces first second line
+  on-line line h =
+      ap (passing (λ (place : ℕ). eqb (lineOf place) line)) (start-pieces (differs first second) lineLength lines)
+      ∙ one-piece lineOf (linePlaces first second) lines
+      (λ i less. from-each (differs first second) (λ (place : ℕ). lineOf place ≡ i) (lineLength * i) lineLength (λ k h′ e. omega arith)) line h
+
+  cells-are : passingFrom (hasPlace first second) 0 (columns * lines) ≡ differingCells places
+  cells-are =
+      from-same (hasPlace first second) (cellDiffers places) 0 (columns * lines)
+      (λ k h. sym (ap (λ (l : List ℕ). ltb 0 (length l)) (in-cell (0 + k) (omega arith))))
+
+  pub counts-are : countsIn first second lines ≡ lineCounts places
+  unfolding countsIn lineCounts
+  counts-are =
+      gather-same (λ (line : ℕ). length (linePlaces first second line)) (λ (line : ℕ). length (onLine places line)) lines
+      (λ line h. ap length (sym (on-line line h)))
+
+  -- a list that is clear has no cell yet
+  pub clear-is : replicate listLength noCell ≡ listedIn first second 0
+  unfolding listedIn listed
+  clear-is = sym (ap listed (from-none (hasPlace first second) 0))
+
+  pub listed-are : listedIn first second lines ≡ listed (differingCells places)
+  unfolding listedIn
+  listed-are = ap listed cells-are
+
+  -- a place of a frame
+  inside : (P : ℕ → Type 0) → ((place : ℕ) → place < frameLength → P place) → Each P places
+  inside P p = from-each (differs first second) P 0 frameLength (λ k h e. p (0 + k) (omega arith))
+
+  xs : (P : ℕ → Type 0) → ((x : ℕ) → x < lineLength → P x) → Each P (map xOf places)
+  xs P p = each-map P xOf places (inside (λ (place : ℕ). P (xOf place)) (λ place h. p (xOf place) (omega arith)))
+
+  ys : (P : ℕ → Type 0) → ((line : ℕ) → line < lines → P line) → Each P (map lineOf places)
+  ys P p = each-map P lineOf places (inside (λ (place : ℕ). P (lineOf place)) (λ place h. p (lineOf place) (omega arith)))
+
+  pub small : Small (foundIn first second lines)
+  unfolding foundIn foundWith cellsWith
+  small = record {
+    left = omega (arith, fold-first rising lineLength (map xOf places));
+    right = omega (arith, fold-bound falling lineLength 0 (map xOf places) (omega arith) (xs (AtLeast lineLength) (λ x h. omega arith)));
+    top = omega (arith, fold-first rising lines (map lineOf places));
+    bottom = omega (arith, fold-bound falling lines 0 (map lineOf places) (omega arith) (ys (AtLeast lines) (λ x h. omega arith)));
+    pixels = omega (arith, from-most (differs first second) 0 frameLength);
+    cells = omega (arith, from-most (hasPlace first second) 0 (columns * lines));
+  }
+
+  pub report-is : reported (foundIn first second lines) ≡ report places
+  unfolding reported report foundIn foundWith cellsWith
+  report-is =
+      let pixels : 0 + length places ≡ length places = omega arith in
+      let count : 0 + length (passingFrom (hasPlace first second) 0 (columns * lines)) ≡ length (differingCells places) =
+      omega (arith, ap length cells-are) in
+      let left = rw (length-map places xOf) at (least-found lineLength (map xOf places) (xs (λ (x : ℕ). x ≤ lineLength) (λ x h. omega arith))) in
+      let top = rw (length-map places lineOf) at (least-found lines (map lineOf places) (ys (λ (line : ℕ). line ≤ lines) (λ line h. omega arith))) in
+      rw (pixels, left, greatest-found (map xOf places), top, greatest-found (map lineOf places), count)

@@ -1,0 +1,107 @@
+-- What the functions of this crate promise to each other.
+-- Assumes nothing.
+use Prim.Native.Nat.{ℕ, _+_, _*_, _≤_, _<_, min, max}
+use mathlib.Core.Bool.{Bool, true, false, cond}
+use mathlib.Core.List.{List, [], _∷_, map, foldl}
+use mathlib.Core.Path.{_≡_}
+use lib.Dec.{eqb, ltb}
+use lib.ListN.{length}
+use Rattle.machine.specs.Lists.{gather}
+use Rattle.machine.specs.Sizes.{cellLength, columns, lines, lineLength, frameLength}
+use Rattle.compare.specs.Answer.{listed}
+use Rattle.compare.specs.Numbers.{ifPassed, passingFrom}
+use Rattle.compare.specs.Places.{xOf, lineOf, differs}
+use Rattle.compare.specs.declared.comparison.Comparison.{Comparison}
+use Rattle.compare.specs.declared.comparison.Cells.{Cells}
+use Rattle.compare.specs.declared.comparison.Found.{Found}
+
+pub record AreFrames (first second : List ℕ) : Type 0 where
+  pub one : length first ≡ frameLength
+  pub other : length second ≡ frameLength
+
+module _ (first second : List ℕ) where
+  -- of the six pixels from a place on, which is the first that differs; 6 where none does
+  pub record FirstDifference (from k : ℕ) : Type 0 where
+    pub within : k ≤ cellLength
+    pub before : (i : ℕ) → i < k → differs first second (from + i) ≡ false
+    pub here : k < cellLength → differs first second (from + k) ≡ true
+
+  -- and which is the last
+  pub record LastDifference (from k : ℕ) : Type 0 where
+    pub within : k < cellLength
+    pub after : (i : ℕ) → k < i → i < cellLength → differs first second (from + i) ≡ false
+    pub here : differs first second (from + k) ≡ true
+
+  -- the differing places of a line, and of a cell
+  abbrev pub linePlaces : ℕ → List ℕ
+  linePlaces line = passingFrom (differs first second) (lineLength * line) lineLength
+
+  abbrev pub cellPlaces : ℕ → List ℕ
+  cellPlaces cell = passingFrom (differs first second) (cellLength * cell) cellLength
+
+  -- a cell has a differing place
+  abbrev pub hasPlace : ℕ → Bool
+  hasPlace cell = ltb 0 (length (cellPlaces cell))
+
+  -- what a cell adds to the list of cells, and what a line does
+  abbrev pub cellListed : ℕ → List ℕ
+  cellListed cell = ifPassed hasPlace cell
+
+  abbrev pub lineListed : ℕ → List ℕ
+  lineListed line = passingFrom hasPlace (columns * line) columns
+
+-- some places and cells more
+unfoldable pub cellsWith : Cells → List ℕ → List ℕ → Cells
+cellsWith before places cells = record {
+  left = foldl min (before .left) (map xOf places);
+  right = foldl max (before .right) (map xOf places);
+  count = before .count + length cells;
+}
+
+unfoldable pub foundWith : Found → List ℕ → List ℕ → Found
+foundWith before places cells = record {
+  cells = cellsWith (before .cells) places cells;
+  top = foldl min (before .top) (map lineOf places);
+  bottom = foldl max (before .bottom) (map lineOf places);
+  pixels = before .pixels + length places;
+}
+
+-- before the first line
+abbrev pub nothing : Found
+nothing = record { cells = record { left = lineLength; right = 0; count = 0 }; top = lines; bottom = 0; pixels = 0 }
+
+-- what the lines before one come to
+module _ (first second : List ℕ) (line : ℕ) where
+  unfoldable pub foundIn : Found
+  foundIn =
+      foundWith nothing (passingFrom (differs first second) 0 (lineLength * line)) (passingFrom (hasPlace first second) 0 (columns * line))
+
+  unfoldable pub countsIn : List ℕ
+  countsIn = gather (λ (l : ℕ). length (linePlaces first second l) ∷ []) line
+
+  unfoldable pub listedIn : List ℕ
+  listedIn = listed (passingFrom (hasPlace first second) 0 (columns * line))
+
+-- what was found fits the answer
+pub record Small (found : Found) : Type 0 where
+  pub left : found .cells .left < 256
+  pub right : found .cells .right < 256
+  pub top : found .top < 256
+  pub bottom : found .bottom < 256
+  pub pixels : found .pixels < 4294967296
+  pub cells : found .cells .count < 4294967296
+
+-- where no pixel differs the least x and the least line are 0
+unfoldable pub reported : Found → Comparison
+reported found =
+    let empty = eqb (found .pixels) 0 in
+    record {
+      status = 0;
+      empty = empty;
+      «first_x» = cond empty 0 (found .cells .left);
+      «last_x» = found .cells .right;
+      «first_line» = cond empty 0 (found .top);
+      «last_line» = found .bottom;
+      pixels = found .pixels;
+      cells = found .cells .count;
+    }

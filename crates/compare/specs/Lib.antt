@@ -1,0 +1,5 @@
+pub mod Numbers
+pub mod Places
+pub mod Answer
+pub mod Laws
+pub mod Internal
