@@ -2,8 +2,8 @@
 
 use tropfenpfad_sys::Latches;
 
+use crate::buffers::assert_same_bytes;
 use crate::calls;
-use crate::compare::assert_same_bytes;
 use crate::inputs::random_latches;
 use crate::model::Bus;
 use crate::random::Xorshift;

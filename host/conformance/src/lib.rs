@@ -5,8 +5,8 @@
 //! are a target of `tests/`, its measurements a module of the binary `bench`.
 
 pub mod accesses;
+pub mod buffers;
 pub mod calls;
-pub mod compare;
 pub mod figures;
 pub mod files;
 pub mod guarded;

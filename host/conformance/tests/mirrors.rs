@@ -5,7 +5,7 @@ use tropfenpfad::{
     decode, fresh_latches, paint_frame, paint_line, read, screen_address, write, Painting, Place,
     Target,
 };
-use tropfenpfad_conformance::compare::assert_same_bytes;
+use tropfenpfad_conformance::buffers::assert_same_bytes;
 use tropfenpfad_conformance::images::{self, Kind, VIDEO_BLOCK};
 use tropfenpfad_conformance::inputs::{
     fresh_of_profile, in_each_profile, random_bytes, start_states,

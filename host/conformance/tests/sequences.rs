@@ -4,8 +4,8 @@ use std::ops::Range;
 
 use tropfenpfad::paint_frame;
 use tropfenpfad_conformance::accesses::{Form, Step, TwoBuses};
+use tropfenpfad_conformance::buffers::assert_same_bytes;
 use tropfenpfad_conformance::calls;
-use tropfenpfad_conformance::compare::assert_same_bytes;
 use tropfenpfad_conformance::images::{self, Kind};
 use tropfenpfad_conformance::inputs::{
     all_states, fresh_of_profile, image_length, in_each_profile, random_latches, MODES,

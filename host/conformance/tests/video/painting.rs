@@ -1,7 +1,7 @@
 //! The library's painter against the models: every pixel, the state and both counts.
 
+use tropfenpfad_conformance::buffers::assert_same_bytes;
 use tropfenpfad_conformance::calls;
-use tropfenpfad_conformance::compare::assert_same_bytes;
 use tropfenpfad_conformance::images::{self, Kind};
 use tropfenpfad_conformance::inputs::{
     all_states, image_length, in_each_profile, start_states, MODES,
@@ -184,7 +184,7 @@ fn a_frame_that_hangs_on_bytes_video_never_reads() {
 mod long {
     use std::collections::HashSet;
 
-    use tropfenpfad_conformance::compare::fingerprint;
+    use tropfenpfad_conformance::buffers::fingerprint;
     use tropfenpfad_conformance::inputs::COUNTERS;
 
     use super::*;
