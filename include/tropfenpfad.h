@@ -4,10 +4,11 @@
  * Two halves. The video half says where a screen byte stands and paints lines
  * and frames from a RAM image. The bus half says what answers at an address
  * and reads and writes over it. Both serve the 48K machine and the 16K machine,
- * by a profile that the caller hands over. The archive is libtropfenpfad.a
- * (x86-64 Linux); it needs the C library's memcpy and nothing else. `make lib`
- * puts it into target/lib and this header into target/include. The example is
- * compiled so:
+ * by a profile that the caller hands over. Beside them stands the comparison,
+ * which says where two frames differ, a grabbed one and a painted one for
+ * example. The archive is libtropfenpfad.a (x86-64 Linux); it needs the C
+ * library's memcpy and nothing else. `make lib` puts it into target/lib and
+ * this header into target/include. The example is compiled so:
  *
  *   cc -std=c11 -Itarget/include host/tropfenpfad/examples/paint.c -Ltarget/lib -ltropfenpfad -o target/paint
  *
@@ -19,23 +20,28 @@
  *
  * What the caller owes
  *
- *   - A pointer that comes with a length points to that many bytes: readable
- *     where it is const, else readable and writable. Any length may be handed
- *     over; a wrong one is refused, and then none of the bytes is changed.
+ *   - A pointer that comes with a length points to that many elements of its
+ *     type, bytes or numbers of 16 bits: readable where it is const, else
+ *     readable and writable. Any length may be handed over; a wrong one is
+ *     refused, and then none of the elements is changed.
  *   - A null pointer only together with the length 0 (which is refused).
  *     The pointer to a latch record has no length and is never null.
+ *   - A pointer to numbers of 16 bits is aligned to 2 bytes: line_counts and
+ *     cells of compare, and no other.
  *   - What is lent in one call does not overlap: not memory and output, not
- *     memory and latch record.
+ *     memory and latch record, not a list with a frame or with the other list.
+ *     Only the two frames of compare may, or be the same: they are only read.
  *
  * Nothing else is owed. Every value of every number is answered or refused,
- * a byte may hold anything, and no buffer needs an alignment or a first
- * content. The calls touch no byte outside what is lent to them.
+ * a byte may hold anything, no buffer of bytes needs an alignment, and none
+ * needs a first content. The calls touch no byte outside what is lent to them.
  *
  * Numbers such as BB80 in these comments are hexadecimal addresses.
  */
 #ifndef TROPFENPFAD_H
 #define TROPFENPFAD_H
 
+#include <stdbool.h>
 #include <stddef.h>
 #include <stdint.h>
 
@@ -93,11 +99,12 @@ extern "C" {
  * call with two wrong arguments always gives the same number.
  *
  * A refused call has changed nothing that was lent. In its answer the state or
- * the latches are those that were handed in, and all else but the status is 0.
+ * the latches are those that were handed in, and all else but the status is 0
+ * or false.
  */
 #define TROPFENPFAD_DONE                0 /* the call was answered */
 #define TROPFENPFAD_REFUSED_MEMORY      1 /* memory_length is not the profile's: 65,536 or 16,384 */
-#define TROPFENPFAD_REFUSED_OUTPUT      2 /* output is not 240 bytes, or frame not 53,760 */
+#define TROPFENPFAD_REFUSED_OUTPUT      2 /* output, a frame or a list has not the length that the call wants */
 #define TROPFENPFAD_REFUSED_MODE        3 /* mode is above 7 */
 #define TROPFENPFAD_REFUSED_COUNTER     4 /* counter is above 31 */
 #define TROPFENPFAD_REFUSED_LINE        5 /* line is above 223 */
@@ -330,6 +337,54 @@ tropfenpfad_written tropfenpfad_write(uint8_t *memory, size_t memory_length, uin
 tropfenpfad_access tropfenpfad_write_in_place(uint8_t *memory, size_t memory_length,
                                               uint8_t profile, tropfenpfad_latches *latches,
                                               uint16_t address, uint8_t byte);
+
+/* ------------------------------------------------------------------------- */
+/* Comparison                                                                */
+/* ------------------------------------------------------------------------- */
+
+/* Places in the list of differing cells. */
+#define TROPFENPFAD_LISTED_CELLS 64
+
+/* What an unused place of that list holds; no cell has this number. */
+#define TROPFENPFAD_NO_CELL 65535
+
+/* The answer of compare: how many pixels and cells differ, and the smallest
+ * rectangle that holds all of these pixels, its last x and line included. */
+typedef struct {
+  uint8_t status;     /* TROPFENPFAD_DONE or a refusal */
+  bool empty;         /* no pixel differs, and the rectangle is four zeros; false on a refusal */
+  uint8_t first_x;    /* of the rectangle, 0 to 239 */
+  uint8_t last_x;     /* 0 to 239 */
+  uint8_t first_line; /* 0 to 223 */
+  uint8_t last_line;  /* 0 to 223 */
+  uint32_t pixels;    /* pixels that differ, up to 53,760 */
+  uint32_t cells;     /* cells that differ, up to 8,960, the listed ones and all others */
+} tropfenpfad_comparison;
+
+/*
+ * Says where two frames differ.
+ *
+ * Any byte is allowed as a pixel, and two pixels differ if their bytes do. A
+ * cell differs if one of its six pixels does, and is named by its number,
+ * 40 * line + column. Swapping the frames changes nothing.
+ *
+ *   first, first_length                53,760 bytes, pixel x of line y at
+ *                                      240 * y + x; only read
+ *   second, second_length              53,760 bytes, the same; only read
+ *   line_counts, line_counts_length    224 numbers, all of them written: how
+ *                                      many pixels of each line differ
+ *   cells, cells_length                64 numbers, all of them written: the
+ *                                      differing cells by line and then column
+ *                                      as far as there is room, then 65,535
+ *
+ * Returns the rectangle and both counts. Equal frames give 0 everywhere but in
+ * the list of cells, and empty.
+ * Refuses: 2 output, where a frame or a list has another length.
+ */
+tropfenpfad_comparison tropfenpfad_compare(const uint8_t *first, size_t first_length,
+                                           const uint8_t *second, size_t second_length,
+                                           uint16_t *line_counts, size_t line_counts_length,
+                                           uint16_t *cells, size_t cells_length);
 
 #ifdef __cplusplus
 }

@@ -2,7 +2,9 @@
 //! refusal the rest of the answer is promised too.
 
 mod bus;
+mod compare;
 mod video;
 
 pub use bus::{decode, fresh_latches, read, write, write_in_place};
+pub use compare::compare;
 pub use video::{fresh_state, paint_frame, paint_line, screen_address};

@@ -42,7 +42,7 @@ pub const FRAME_LENGTH: usize = 53_760;
 pub const DONE: u8 = 0;
 /// The memory image has not the profile's length.
 pub const REFUSED_MEMORY: u8 = 1;
-/// The lent output has another length.
+/// The lent output, a frame or a list has another length.
 pub const REFUSED_OUTPUT: u8 = 2;
 /// The mode is too great.
 pub const REFUSED_MODE: u8 = 3;
@@ -235,4 +235,51 @@ extern "C" {
         address: u16,
         byte: u8,
     ) -> Access;
+}
+
+// ----------------------------------------------------------------------------
+// Comparison
+// ----------------------------------------------------------------------------
+
+/// Places in the list of differing cells.
+pub const LISTED_CELLS: usize = 64;
+
+/// What an unused place of that list holds; no cell has this number.
+pub const NO_CELL: u16 = 65_535;
+
+/// The answer of a comparison: how many pixels and cells differ, and the smallest rectangle that
+/// holds all of these pixels.
+#[repr(C)]
+#[derive(Clone, Copy, Debug, PartialEq, Eq)]
+pub struct Comparison {
+    /// 0, or the refusal's number.
+    pub status: u8,
+    /// No pixel differs, and the rectangle is four zeros; false on a refusal.
+    pub empty: bool,
+    /// The rectangle's first x.
+    pub first_x: u8,
+    /// Its last x.
+    pub last_x: u8,
+    /// Its first line.
+    pub first_line: u8,
+    /// Its last line.
+    pub last_line: u8,
+    /// Pixels that differ.
+    pub pixels: u32,
+    /// Cells that differ, the listed ones and all others.
+    pub cells: u32,
+}
+
+#[allow(missing_docs)]
+extern "C" {
+    pub fn tropfenpfad_compare(
+        first: *const u8,
+        first_length: usize,
+        second: *const u8,
+        second_length: usize,
+        line_counts: *mut u16,
+        line_counts_length: usize,
+        cells: *mut u16,
+        cells_length: usize,
+    ) -> Comparison;
 }

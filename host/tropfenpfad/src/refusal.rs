@@ -12,7 +12,8 @@ use tropfenpfad_sys as ffi;
 pub enum Refusal {
     /// The memory image has not the profile's length: 65,536 bytes for 0, 16,384 for 1.
     Memory = ffi::REFUSED_MEMORY,
-    /// The lent output is not 240 bytes long for a line, or 53,760 for a frame.
+    /// A line is not 240 bytes long, a frame not 53,760, the line counts are not 224 numbers or the
+    /// listed cells not 64.
     Output = ffi::REFUSED_OUTPUT,
     /// The mode is above 7.
     Mode = ffi::REFUSED_MODE,
@@ -62,7 +63,10 @@ impl Refusal {
             Refusal::Memory => {
                 "the memory image is not 65,536 bytes for profile 0 or 16,384 for profile 1"
             }
-            Refusal::Output => "the output is not 240 bytes for a line or 53,760 for a frame",
+            Refusal::Output => {
+                "a line is not 240 bytes, a frame not 53,760, the line counts are not 224 numbers \
+                 or the listed cells not 64"
+            }
             Refusal::Mode => "the mode is above 7",
             Refusal::Counter => "the flash counter is above 31",
             Refusal::Line => "the line is above 223",

@@ -1,14 +1,18 @@
 /*
- * Makes each call of the header in both profiles, some refused, and prints
- * every number that comes back. every_call.rs makes the same calls from Rust
- * and compares.
+ * Makes each call of the header, in both profiles where it takes one, some
+ * refused, and prints every number that comes back. every_call.rs makes the
+ * same calls from Rust and compares.
  */
 #include <stdio.h>
+#include <string.h>
 
 #include "tropfenpfad.h"
 
 static uint8_t memory[TROPFENPFAD_IMAGE_LENGTH];
 static uint8_t frame[TROPFENPFAD_FRAME_LENGTH];
+static uint8_t grabbed[TROPFENPFAD_FRAME_LENGTH];
+static uint16_t line_counts[TROPFENPFAD_LINES];
+static uint16_t cells[TROPFENPFAD_LISTED_CELLS];
 
 static void painted(const char *name, tropfenpfad_painted answer) {
   unsigned long sum = 0;
@@ -67,6 +71,31 @@ static void bus(size_t length, uint8_t profile, uint8_t kind) {
   access_made("read", tropfenpfad_read(memory, length, profile, latches, 0xC000));
 }
 
+static unsigned long sum_of(const uint16_t *list, size_t length) {
+  unsigned long sum = 0;
+  for (size_t i = 0; i < length; i++) sum = (sum * 31 + list[i]) % 1000003;
+  return sum;
+}
+
+static void compared(size_t frame_length, size_t cells_length) {
+  tropfenpfad_comparison answer =
+      tropfenpfad_compare(frame, frame_length, grabbed, TROPFENPFAD_FRAME_LENGTH, line_counts,
+                          TROPFENPFAD_LINES, cells, cells_length);
+  printf("compare %u %d %u %u %u %u %lu %lu %lu %lu\n", (unsigned)answer.status, answer.empty,
+         (unsigned)answer.first_x, (unsigned)answer.last_x, (unsigned)answer.first_line,
+         (unsigned)answer.last_line, (unsigned long)answer.pixels, (unsigned long)answer.cells,
+         sum_of(line_counts, TROPFENPFAD_LINES), sum_of(cells, TROPFENPFAD_LISTED_CELLS));
+}
+
+static void comparison(void) {
+  compared(0, TROPFENPFAD_LISTED_CELLS);
+  memcpy(grabbed, frame, sizeof grabbed);
+  compared(sizeof frame, TROPFENPFAD_LISTED_CELLS);
+  for (size_t i = 5000; i < 50000; i += 411) grabbed[i] ^= 0x80;
+  compared(sizeof frame, TROPFENPFAD_LISTED_CELLS);
+  compared(sizeof frame, TROPFENPFAD_LISTED_CELLS - 1);
+}
+
 int main(void) {
   for (size_t i = 0; i < sizeof memory; i++) memory[i] = (uint8_t)(i * 7 + i / 251);
   tropfenpfad_state fresh = tropfenpfad_fresh_state();
@@ -79,5 +108,6 @@ int main(void) {
   bus(TROPFENPFAD_IMAGE_LENGTH, TROPFENPFAD_PROFILE_48K, TROPFENPFAD_KIND_JASMIN);
   bus(TROPFENPFAD_IMAGE_LENGTH_16K, TROPFENPFAD_PROFILE_16K, TROPFENPFAD_KIND_NONE);
   bus(TROPFENPFAD_IMAGE_LENGTH_16K, TROPFENPFAD_PROFILE_16K, TROPFENPFAD_KIND_JASMIN);
+  comparison();
   return 0;
 }

@@ -1,4 +1,4 @@
-//! Every call from C in both profiles, and the same calls from Rust.
+//! Every call from C, and the same calls from Rust.
 
 use std::process::Command;
 
@@ -6,7 +6,7 @@ use tropfenpfad_conformance::calls;
 use tropfenpfad_conformance::inputs::fresh_of_kind;
 use tropfenpfad_sys::{
     Access, Latches, Painted, State, FRAME_LENGTH, IMAGE_LENGTH, IMAGE_LENGTH_16K, KIND_JASMIN,
-    KIND_NONE, LINE_LENGTH, PROFILE_16K, PROFILE_48K,
+    KIND_NONE, LINES, LINE_LENGTH, LISTED_CELLS, PROFILE_16K, PROFILE_48K,
 };
 
 use crate::cc::{build, succeed};
@@ -27,6 +27,7 @@ fn a_call_from_c_that_answers_otherwise() {
         bus(&mut memory[..whole], PROFILE_48K, KIND_JASMIN),
         bus(&mut memory[..block], PROFILE_16K, KIND_NONE),
         bus(&mut memory[..block], PROFILE_16K, KIND_JASMIN),
+        comparison(&frame),
     ]
     .concat();
     assert_eq!(String::from_utf8_lossy(&printed), expected);
@@ -36,10 +37,14 @@ fn a_call_from_c_that_answers_otherwise() {
     );
 }
 
+/// A number that tells two lists apart.
+fn sum_of<T: Copy + Into<u64>>(list: &[T]) -> u64 {
+    list.iter()
+        .fold(0, |sum, &number| (sum * 31 + number.into()) % 1_000_003)
+}
+
 fn painted(name: &str, answer: Painted, frame: &[u8]) -> String {
-    let sum = frame
-        .iter()
-        .fold(0, |sum, &pixel| (sum * 31 + u64::from(pixel)) % 1_000_003);
+    let sum = sum_of(frame);
     let State {
         mode,
         counter,
@@ -124,4 +129,45 @@ fn bus(memory: &mut [u8], profile: u8, kind: u8) -> String {
     text += &write(memory, profile, record, 0xC000);
     text += &access("read", calls::read(memory, profile, record, 0xC000));
     text
+}
+
+/// The lists of every comparison.
+struct Lists {
+    line_counts: [u16; LINES],
+    cells: [u16; LISTED_CELLS],
+}
+
+impl Lists {
+    fn compare(&mut self, frame: &[u8], grabbed: &[u8], places: usize) -> String {
+        let cells = &mut self.cells[..places];
+        let answer = calls::compare(frame, grabbed, &mut self.line_counts, cells);
+        format!(
+            "compare {} {} {} {} {} {} {} {} {} {}\n",
+            answer.status,
+            u8::from(answer.empty),
+            answer.first_x,
+            answer.last_x,
+            answer.first_line,
+            answer.last_line,
+            answer.pixels,
+            answer.cells,
+            sum_of(&self.line_counts),
+            sum_of(&self.cells)
+        )
+    }
+}
+
+fn comparison(frame: &[u8]) -> String {
+    let mut lists = Lists {
+        line_counts: [0; LINES],
+        cells: [0; LISTED_CELLS],
+    };
+    let mut grabbed = frame.to_vec();
+    let mut text = lists.compare(&[], &grabbed, LISTED_CELLS);
+    text += &lists.compare(frame, &grabbed, LISTED_CELLS);
+    for place in (5000..50000).step_by(411) {
+        grabbed[place] ^= 0x80;
+    }
+    text += &lists.compare(frame, &grabbed, LISTED_CELLS);
+    text + &lists.compare(frame, &grabbed, LISTED_CELLS - 1)
 }

@@ -5,7 +5,7 @@ use std::fs;
 use std::mem::{offset_of, size_of};
 
 use tropfenpfad::{Refusal, Target};
-use tropfenpfad_sys::{Access, Address, Decoded, Latches, Painted, State, Written};
+use tropfenpfad_sys::{Access, Address, Comparison, Decoded, Latches, Painted, State, Written};
 
 use crate::cc::{compiler, scratch, succeed, STANDARDS, WARNINGS};
 use crate::names::{constant_name, header_names};
@@ -100,6 +100,14 @@ fn bus(facts: &mut Facts) {
     record!(facts, "tropfenpfad_written", Written: status, target, number, byte, latches);
 }
 
+fn comparison(facts: &mut Facts) {
+    constants!(facts: LISTED_CELLS, NO_CELL);
+    record!(
+        facts, "tropfenpfad_comparison", Comparison:
+        status, empty, first_x, last_x, first_line, last_line, pixels, cells
+    );
+}
+
 #[test]
 fn a_header_that_does_not_compile_alone() {
     let source = scratch("alone.c");
@@ -117,7 +125,7 @@ fn a_header_that_does_not_compile_alone() {
 #[test]
 fn a_record_or_constant_that_differs_in_the_header() {
     let mut facts = Facts::new();
-    for section in [profiles, sizes, refusals, video, bus] {
+    for section in [profiles, sizes, refusals, video, bus, comparison] {
         section(&mut facts);
     }
     let source = scratch("facts.c");
