@@ -3,10 +3,11 @@
 
 use std::ffi::{c_int, c_void};
 use std::io::Error;
+use std::mem::size_of_val;
 use std::ptr;
 
 use crate::images::{self, Kind};
-use crate::inputs::{random_bytes, PROFILES};
+use crate::inputs::{random_bytes, random_numbers, PROFILES};
 
 const PAGE: usize = 4096;
 const NO_ACCESS: c_int = 0;
@@ -57,40 +58,80 @@ pub fn memories(kind: Kind) -> impl Iterator<Item = Lent> {
 
 /// Buffers of these lengths against both sides, with random bytes.
 pub fn outputs(lengths: &[usize]) -> Vec<Lent> {
-    let lent = |&length| SIDES.map(|side| Lent::new(side, random_bytes(2, length)));
+    on_both_sides(lengths, |length| random_bytes(2, length))
+}
+
+/// Lists of these lengths against both sides, with random numbers.
+pub fn lists(lengths: &[usize]) -> Vec<Lent<u16>> {
+    on_both_sides(lengths, |length| random_numbers(2, length))
+}
+
+fn on_both_sides<T: Number>(lengths: &[usize], content: impl Fn(usize) -> Vec<T>) -> Vec<Lent<T>> {
+    let lent = |&length| SIDES.map(|side| Lent::new(side, content(length)));
     lengths.iter().flat_map(lent).collect()
 }
 
-/// A buffer of a length against one side of guarded pages, and the same bytes in a vector.
-pub struct Lent {
+/// What a lent buffer is made of.
+pub trait Number: Copy + PartialEq {
+    /// The bytes of a list of them.
+    fn bytes(list: &[Self]) -> &[u8];
+}
+
+impl Number for u8 {
+    fn bytes(list: &[u8]) -> &[u8] {
+        list
+    }
+}
+
+impl Number for u16 {
+    fn bytes(list: &[u16]) -> &[u8] {
+        // SAFETY: these are the list's own bytes, and any byte is a number.
+        unsafe { std::slice::from_raw_parts(list.as_ptr().cast(), size_of_val(list)) }
+    }
+}
+
+/// A buffer of a length against one side of guarded pages, and what it holds in a vector.
+pub struct Lent<T = u8> {
     pages: Pages,
     against: Against,
     /// What the buffer has to hold, for the model to change.
-    pub copy: Vec<u8>,
+    pub copy: Vec<T>,
 }
 
-impl Lent {
-    pub fn new(against: Against, content: Vec<u8>) -> Self {
-        let mut pages = Pages::new(content.len());
-        assert!(pages.are_guarded());
-        let place = pages.place(against, content.len());
-        let bytes = pages.bytes_mut();
-        bytes.fill(BESIDE);
-        bytes[place..place + content.len()].copy_from_slice(&content);
-        Lent {
-            pages,
+impl<T: Number> Lent<T> {
+    pub fn new(against: Against, content: Vec<T>) -> Self {
+        let mut lent = Lent {
+            pages: Pages::new(size_of_val(&content[..])),
             against,
             copy: content,
-        }
+        };
+        assert!(lent.pages.are_guarded());
+        lent.pages.bytes_mut().fill(BESIDE);
+        lent.restore();
+        lent
     }
 
-    pub fn pointer(&self) -> *mut u8 {
-        let place = self.pages.place(self.against, self.length());
-        self.pages.first().wrapping_add(place)
+    /// Puts the vector's content into the buffer, and makes it writable.
+    pub fn restore(&mut self) {
+        let place = self.place();
+        let content = T::bytes(&self.copy);
+        self.pages.bytes_mut()[place..place + content.len()].copy_from_slice(content);
     }
 
+    /// The buffer, aligned for its numbers on either side: pages are, and so is a page's end less
+    /// some whole numbers.
+    pub fn pointer(&self) -> *mut T {
+        self.pages.first().wrapping_add(self.place()).cast()
+    }
+
+    /// Its length in numbers.
     pub fn length(&self) -> usize {
         self.copy.len()
+    }
+
+    /// Where in the open bytes it lies.
+    fn place(&self) -> usize {
+        self.pages.place(self.against, size_of_val(&self.copy[..]))
     }
 
     /// From now on a store into the buffer is a fault too.
@@ -101,10 +142,10 @@ impl Lent {
     /// Compares the buffer with the vector, and all beside it with what was there.
     #[track_caller]
     pub fn check(&self, what: &str) {
-        let place = self.pages.place(self.against, self.length());
-        let (before, rest) = self.pages.bytes().split_at(place);
-        let (buffer, after) = rest.split_at(self.length());
-        assert!(buffer == self.copy, "{what}: the buffer");
+        let content = T::bytes(&self.copy);
+        let (before, rest) = self.pages.bytes().split_at(self.place());
+        let (buffer, after) = rest.split_at(content.len());
+        assert!(buffer == content, "{what}: the buffer");
         assert!(before.iter().all(|&byte| byte == BESIDE), "{what}: before");
         assert!(after.iter().all(|&byte| byte == BESIDE), "{what}: after");
     }

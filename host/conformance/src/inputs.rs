@@ -85,3 +85,12 @@ pub fn random_bytes(seed: u64, length: usize) -> Vec<u8> {
     Xorshift::new(seed).fill(&mut bytes);
     bytes
 }
+
+/// So many numbers of 16 bits at random.
+pub fn random_numbers(seed: u64, length: usize) -> Vec<u16> {
+    let bytes = random_bytes(seed, 2 * length);
+    let pairs = bytes.chunks_exact(2);
+    pairs
+        .map(|pair| u16::from_le_bytes([pair[0], pair[1]]))
+        .collect()
+}
