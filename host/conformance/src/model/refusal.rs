@@ -21,7 +21,7 @@ pub(super) fn of_memory(profile: u8, memory: &[u8]) -> Test {
     (1, memory.len() != length)
 }
 
-pub(super) fn of_output(output: &[u8], length: usize) -> Test {
+pub(super) fn of_output<T>(output: &[T], length: usize) -> Test {
     (2, output.len() != length)
 }
 
