@@ -6,9 +6,12 @@
 use std::collections::{BTreeMap, BTreeSet};
 
 use tropfenpfad::Refusal;
-use tropfenpfad_sys::{Latches, State, FRAME_LENGTH, IMAGE_LENGTH, IMAGE_LENGTH_16K, LINE_LENGTH};
+use tropfenpfad_sys::{
+    self as ffi, Latches, State, FRAME_LENGTH, IMAGE_LENGTH, IMAGE_LENGTH_16K, LINE_LENGTH,
+    LISTED_CELLS,
+};
 
-use crate::inputs::random_bytes;
+use crate::inputs::{random_bytes, random_numbers};
 
 /// Values to hand over, right ones and wrong ones.
 pub struct Values<T: 'static> {
@@ -85,6 +88,47 @@ pub const KINDS: Values<u8> = Values {
     right: &[0, 1, 2],
     wrong: &[3, 4, 128, 255],
 };
+const COMPARED_FRAMES: Values<usize> = Values {
+    right: &[FRAME_LENGTH],
+    wrong: &[
+        0,
+        1,
+        LISTED_CELLS,
+        ffi::LINES,
+        FRAME_LENGTH - 1,
+        FRAME_LENGTH + 1,
+        FRAME_LENGTH + 0x1_0000,
+    ],
+};
+// In numbers of 16 bits: half and twice the right length are what a count of bytes would be.
+const LINE_COUNTS: Values<usize> = Values {
+    right: &[ffi::LINES],
+    wrong: &[
+        0,
+        1,
+        LISTED_CELLS,
+        ffi::LINES / 2,
+        ffi::LINES - 1,
+        ffi::LINES + 1,
+        2 * ffi::LINES,
+        ffi::LINES + 256,
+        FRAME_LENGTH,
+    ],
+};
+const CELL_LISTS: Values<usize> = Values {
+    right: &[LISTED_CELLS],
+    wrong: &[
+        0,
+        1,
+        LISTED_CELLS / 2,
+        LISTED_CELLS - 1,
+        LISTED_CELLS + 1,
+        2 * LISTED_CELLS,
+        ffi::LINES,
+        LISTED_CELLS + 256,
+        FRAME_LENGTH,
+    ],
+};
 const LATCH_BYTES: [u8; 4] = [0x00, 0x01, 0x82, 0xFF];
 
 /// Numbers of refusals that never apply together: 12 is for a profile above 1, 13 for profile 1.
@@ -93,6 +137,25 @@ const APART: [(u8, u8); 1] = [(12, 13)];
 /// Random bytes to lend, of the greatest length that is handed over.
 pub fn lent_bytes() -> Vec<u8> {
     random_bytes(7, 2 * IMAGE_LENGTH)
+}
+
+/// Random numbers of 16 bits to lend, of the greatest length that is handed over.
+pub fn lent_numbers() -> Vec<u16> {
+    random_numbers(8, IMAGE_LENGTH)
+}
+
+/// Lengths of two compared frames, the line counts and the list of cells, and which are wrong.
+pub fn compared_lengths() -> impl Iterator<Item = ([usize; 4], [bool; 4])> {
+    COMPARED_FRAMES.each().flat_map(|first| {
+        COMPARED_FRAMES.each().flat_map(move |second| {
+            LINE_COUNTS.each().flat_map(move |line_counts| {
+                CELL_LISTS.each().map(move |cells| {
+                    let lent = [first, second, line_counts, cells];
+                    (lent.map(|(length, _)| length), lent.map(|(_, bad)| bad))
+                })
+            })
+        })
+    })
 }
 
 /// Lengths of memory, and whether they are wrong. A wrong profile has no length of its own: with
