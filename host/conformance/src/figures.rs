@@ -3,12 +3,12 @@
 use std::fmt::Write;
 
 use tropfenpfad_sys::{
-    Latches, Painted, State, FRAME_LENGTH, IMAGE_LENGTH, IMAGE_LENGTH_16K, LINE_LENGTH,
-    PROFILE_16K, PROFILE_48K,
+    Latches, Painted, State, FRAME_LENGTH, IMAGE_LENGTH, IMAGE_LENGTH_16K, LINES, LINE_LENGTH,
+    LISTED_CELLS, PROFILE_16K, PROFILE_48K,
 };
 
 use crate::inputs::image_length;
-use crate::model::{Bus, Video};
+use crate::model::{compare, Bus, Video};
 use crate::random::step;
 
 /// Where the generator and the digest start.
@@ -50,8 +50,18 @@ const PROFILE_MEMORIES: [(u8, usize); 7] = [
     (2, IMAGE_LENGTH),
 ];
 
+/// Out of 65,536 pixels of a generated pair of frames, so many differ on the mean.
+const DIFFERING: [u64; 8] = [0, 1, 8, 64, 512, 4096, 32_768, 65_536];
+/// Lengths of frames and lists, of each quadruple one wrong.
+const COMPARED: [[usize; 4]; 4] = [
+    [FRAME_LENGTH - 1, FRAME_LENGTH, LINES, LISTED_CELLS],
+    [FRAME_LENGTH, FRAME_LENGTH + 1, LINES, LISTED_CELLS],
+    [FRAME_LENGTH, FRAME_LENGTH, LINES - 1, LISTED_CELLS],
+    [FRAME_LENGTH, FRAME_LENGTH, LINES, LISTED_CELLS + 1],
+];
+
 /// All lines, each ended by a line feed: limits, decodes and images of the 48K machine, then of the
-/// 16K machine, whose lines begin with the profile.
+/// 16K machine, whose lines begin with the profile, then comparisons.
 pub fn lines() -> String {
     let (video, bus) = (Video::new(), Bus::new());
     let mut text = String::new();
@@ -84,6 +94,12 @@ pub fn lines() -> String {
             "profile {PROFILE_16K} {}",
             image_line(&video, PROFILE_16K, image)
         );
+    }
+    for (number, limit) in (0..).zip(DIFFERING) {
+        text += &comparison_line(number, limit);
+    }
+    for lengths in COMPARED {
+        text += &compared_lengths_line(lengths);
     }
     text
 }
@@ -161,6 +177,63 @@ fn image_line(model: &Video, profile: u8, image: u64) -> String {
         painted.screen,
         painted.character,
         digest.0
+    )
+}
+
+/// Compares a generated pair of frames, with lists that hold something else before.
+fn comparison_line(number: u64, limit: u64) -> String {
+    let (first, second) = generate_pair(number, limit);
+    let (mut line_counts, mut cells) = ([7; LINES], [7; LISTED_CELLS]);
+    let answer = compare::compare(&first, &second, &mut line_counts, &mut cells);
+    format!(
+        "compare {number} limit {limit}: status {} empty {} x {} {} line {} {} pixels {} cells {} \
+         counts {:016x} list {:016x}\n",
+        answer.status,
+        u8::from(answer.empty),
+        answer.first_x,
+        answer.last_x,
+        answer.first_line,
+        answer.last_line,
+        answer.pixels,
+        answer.cells,
+        digest_of(&line_counts),
+        digest_of(&cells)
+    )
+}
+
+fn digest_of(numbers: &[u16]) -> u64 {
+    let mut digest = Digest::new();
+    for number in numbers {
+        digest.take(&number.to_le_bytes());
+    }
+    digest.0
+}
+
+fn generate_pair(number: u64, limit: u64) -> (Vec<u8>, Vec<u8>) {
+    let mut x = START + number;
+    let next = |_| {
+        x = step(x);
+        let first = (x >> 32) as u8;
+        let differs = (x >> 40) % 65_536 < limit;
+        (first, first.wrapping_add(differs.into()))
+    };
+    (0..FRAME_LENGTH).map(next).unzip()
+}
+
+/// Compares frames and lists of zeros with these lengths.
+fn compared_lengths_line(lengths: [usize; 4]) -> String {
+    let [first, second, counted, listed] = lengths;
+    let frames = [first, second].map(|length| vec![0; length]);
+    let mut lists = [counted, listed].map(|length| vec![0; length]);
+    let [line_counts, cells] = &mut lists;
+    let answer = compare::compare(&frames[0], &frames[1], line_counts, cells);
+    format!(
+        "compare lengths {first} {second} {counted} {listed}: status {} empty {} pixels {} \
+         cells {}\n",
+        answer.status,
+        u8::from(answer.empty),
+        answer.pixels,
+        answer.cells
     )
 }
 
