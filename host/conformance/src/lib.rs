@@ -7,6 +7,7 @@
 pub mod accesses;
 pub mod buffers;
 pub mod calls;
+pub mod comparisons;
 pub mod figures;
 pub mod files;
 pub mod guarded;

@@ -1,5 +1,5 @@
 //! The comparison, by the set of places at which the frames differ: all of the report is derived
-//! from it. Two more stand beside it for the benchmark.
+//! from it. Two others stand beside it for the benchmark, which take only what is not refused.
 
 pub mod fast;
 pub mod plain;
@@ -23,9 +23,14 @@ pub fn compare(
     line_counts: &mut [u16],
     cells: &mut [u16],
 ) -> Comparison {
-    let status = refusal(first, second, line_counts, cells);
+    let status = first_of(&[
+        of_output(first, FRAME_LENGTH),
+        of_output(second, FRAME_LENGTH),
+        of_output(line_counts, LINES),
+        of_output(cells, LISTED_CELLS),
+    ]);
     if status != 0 {
-        return refused(status);
+        return Comparison { status, ..NOTHING };
     }
     report(&differing(first, second), line_counts, cells)
 }
@@ -67,17 +72,7 @@ pub fn report(places: &Places, line_counts: &mut [u16], cells: &mut [u16]) -> Co
     }
 }
 
-/// The refusal that is due, 0 where none is.
-fn refusal(first: &[u8], second: &[u8], line_counts: &[u16], cells: &[u16]) -> u8 {
-    first_of(&[
-        of_output(first, FRAME_LENGTH),
-        of_output(second, FRAME_LENGTH),
-        of_output(line_counts, LINES),
-        of_output(cells, LISTED_CELLS),
-    ])
-}
-
-/// Done, with nothing found and nothing said of the rectangle.
+/// An answer in which every number is 0.
 const NOTHING: Comparison = Comparison {
     status: 0,
     empty: false,
@@ -88,7 +83,3 @@ const NOTHING: Comparison = Comparison {
     pixels: 0,
     cells: 0,
 };
-
-fn refused(status: u8) -> Comparison {
-    Comparison { status, ..NOTHING }
-}

@@ -4,46 +4,17 @@
 use std::iter::once;
 
 use tropfenpfad_conformance::calls;
+use tropfenpfad_conformance::comparisons::{Compare, Lists, HELD};
 use tropfenpfad_conformance::images::{self, Kind};
-use tropfenpfad_conformance::inputs::{
-    in_each_profile, random_bytes, random_numbers, start_states, MODES,
-};
+use tropfenpfad_conformance::inputs::{in_each_profile, random_bytes, start_states, MODES};
 use tropfenpfad_conformance::model::compare::{self, differing, Places, CELL_LENGTH};
 use tropfenpfad_conformance::random::Xorshift;
 use tropfenpfad_sys::{
     Comparison, State, COLUMNS, FRAME_LENGTH, LINES, LINE_LENGTH, LISTED_CELLS, NO_CELL,
 };
 
-use crate::{Compare, HELD};
-
 /// Cells of a frame.
 const CELLS: usize = COLUMNS * LINES;
-
-/// The two lists, as they are lent or as a call has left them.
-#[derive(Clone, Copy, Debug, PartialEq)]
-struct Lists {
-    line_counts: [u16; LINES],
-    cells: [u16; LISTED_CELLS],
-}
-
-impl Lists {
-    /// The same number everywhere.
-    fn of(number: u16) -> Self {
-        Lists {
-            line_counts: [number; LINES],
-            cells: [number; LISTED_CELLS],
-        }
-    }
-
-    fn random() -> Self {
-        let numbers = random_numbers(3, LINES + LISTED_CELLS);
-        let (line_counts, cells) = numbers.split_at(LINES);
-        Lists {
-            line_counts: line_counts.try_into().expect("the length is right"),
-            cells: cells.try_into().expect("the length is right"),
-        }
-    }
-}
 
 type Report = (Comparison, Lists);
 
@@ -98,7 +69,7 @@ impl Bench {
                 Lists::of(0),
                 Lists::of(1),
                 Lists::of(NO_CELL),
-                Lists::random(),
+                Lists::random(3),
             ],
             pairs: 0,
             calls: 0,
@@ -109,7 +80,7 @@ impl Bench {
     fn call(&mut self, what: &str, by: Compare, frames: [&[u8]; 2], due: &Report) {
         let mut lists = self.generator.pick(&self.before);
         let [first, second] = frames;
-        let answer = by(first, second, &mut lists.line_counts, &mut lists.cells);
+        let answer = lists.compare(by, first, second);
         assert_eq!((answer, lists), *due, "{what}");
         self.calls += 1;
     }
@@ -354,9 +325,7 @@ fn compare_painted(profile: u8) {
     let mut equal = 0;
     let [mut first, mut second] = [vec![0; FRAME_LENGTH], vec![0; FRAME_LENGTH]];
     for kind in Kind::ALL {
-        // The flash changes from this frame to the next.
-        let states = start_states(profile).filter(|state| state.counter == 15);
-        for (seed, state) in states.enumerate() {
+        for (seed, state) in start_states(profile).enumerate() {
             let memory = images::image(profile, kind, 4_000_000 + seed as u64);
             let after = calls::paint_frame(&memory, state, &mut first).state;
             let mode = (state.mode + 1 + seed as u8 % 4) % MODES;

@@ -3,10 +3,11 @@
 use std::process::Command;
 
 use tropfenpfad_conformance::calls;
+use tropfenpfad_conformance::comparisons::Lists;
 use tropfenpfad_conformance::inputs::fresh_of_kind;
 use tropfenpfad_sys::{
     Access, Latches, Painted, State, FRAME_LENGTH, IMAGE_LENGTH, IMAGE_LENGTH_16K, KIND_JASMIN,
-    KIND_NONE, LINES, LINE_LENGTH, LISTED_CELLS, PROFILE_16K, PROFILE_48K,
+    KIND_NONE, LINE_LENGTH, LISTED_CELLS, PROFILE_16K, PROFILE_48K,
 };
 
 use crate::cc::{build, succeed};
@@ -131,43 +132,32 @@ fn bus(memory: &mut [u8], profile: u8, kind: u8) -> String {
     text
 }
 
-/// The lists of every comparison.
-struct Lists {
-    line_counts: [u16; LINES],
-    cells: [u16; LISTED_CELLS],
-}
-
-impl Lists {
-    fn compare(&mut self, frame: &[u8], grabbed: &[u8], places: usize) -> String {
-        let cells = &mut self.cells[..places];
-        let answer = calls::compare(frame, grabbed, &mut self.line_counts, cells);
-        format!(
-            "compare {} {} {} {} {} {} {} {} {} {}\n",
-            answer.status,
-            u8::from(answer.empty),
-            answer.first_x,
-            answer.last_x,
-            answer.first_line,
-            answer.last_line,
-            answer.pixels,
-            answer.cells,
-            sum_of(&self.line_counts),
-            sum_of(&self.cells)
-        )
-    }
+fn compare(lists: &mut Lists, frame: &[u8], grabbed: &[u8], places: usize) -> String {
+    let cells = &mut lists.cells[..places];
+    let answer = calls::compare(frame, grabbed, &mut lists.line_counts, cells);
+    format!(
+        "compare {} {} {} {} {} {} {} {} {} {}\n",
+        answer.status,
+        u8::from(answer.empty),
+        answer.first_x,
+        answer.last_x,
+        answer.first_line,
+        answer.last_line,
+        answer.pixels,
+        answer.cells,
+        sum_of(&lists.line_counts),
+        sum_of(&lists.cells)
+    )
 }
 
 fn comparison(frame: &[u8]) -> String {
-    let mut lists = Lists {
-        line_counts: [0; LINES],
-        cells: [0; LISTED_CELLS],
-    };
+    let mut lists = Lists::of(0);
     let mut grabbed = frame.to_vec();
-    let mut text = lists.compare(&[], &grabbed, LISTED_CELLS);
-    text += &lists.compare(frame, &grabbed, LISTED_CELLS);
+    let mut text = compare(&mut lists, &[], &grabbed, LISTED_CELLS);
+    text += &compare(&mut lists, frame, &grabbed, LISTED_CELLS);
     for place in (5000..50000).step_by(411) {
         grabbed[place] ^= 0x80;
     }
-    text += &lists.compare(frame, &grabbed, LISTED_CELLS);
-    text + &lists.compare(frame, &grabbed, LISTED_CELLS - 1)
+    text += &compare(&mut lists, frame, &grabbed, LISTED_CELLS);
+    text + &compare(&mut lists, frame, &grabbed, LISTED_CELLS - 1)
 }

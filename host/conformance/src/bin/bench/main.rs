@@ -2,6 +2,7 @@
 //! run, and each figure is the best of several.
 
 mod bus;
+mod compare;
 mod contest;
 mod frames;
 mod frames_16k;
@@ -20,5 +21,6 @@ fn main() {
     let rows = Rows::begin();
     video::rows(&rows);
     bus::rows(&rows);
+    compare::print();
     growth::print();
 }
