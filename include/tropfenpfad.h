@@ -4,11 +4,12 @@
  * Two halves. The video half says where a screen byte stands and paints lines
  * and frames from a RAM image. The bus half says what answers at an address
  * and reads and writes over it. Both serve the 48K machine and the 16K machine,
- * by a profile that the caller hands over. Beside them stands the comparison,
- * which says where two frames differ, a grabbed one and a painted one for
- * example. The archive is libtropfenpfad.a (x86-64 Linux); it needs the C
- * library's memcpy and nothing else. `make lib` puts it into target/lib and
- * this header into target/include. The example is compiled so:
+ * by a profile that the caller hands over. Beside the halves stands the
+ * comparison, which says where two frames differ, such as one that was grabbed
+ * from a screen and the one that should be there. The archive is
+ * libtropfenpfad.a (x86-64 Linux); it needs the C library's memcpy and nothing
+ * else. `make lib` puts it into target/lib and this header into target/include.
+ * The example is compiled so:
  *
  *   cc -std=c11 -Itarget/include host/tropfenpfad/examples/paint.c -Ltarget/lib -ltropfenpfad -o target/paint
  *
@@ -26,11 +27,11 @@
  *     refused, and then none of the elements is changed.
  *   - A null pointer only together with the length 0 (which is refused).
  *     The pointer to a latch record has no length and is never null.
- *   - A pointer to numbers of 16 bits is aligned to 2 bytes: line_counts and
- *     cells of compare, and no other.
+ *   - A pointer to numbers of 16 bits is aligned to 2 bytes. These are
+ *     line_counts and cells of compare.
  *   - What is lent in one call does not overlap: not memory and output, not
- *     memory and latch record, not a list with a frame or with the other list.
- *     Only the two frames of compare may, or be the same: they are only read.
+ *     memory and latch record, not a list and a frame, not the two lists. Only
+ *     the two frames of compare may overlap or be the same: they are only read.
  *
  * Nothing else is owed. Every value of every number is answered or refused,
  * a byte may hold anything, no buffer of bytes needs an alignment, and none
@@ -104,7 +105,7 @@ extern "C" {
  */
 #define TROPFENPFAD_DONE                0 /* the call was answered */
 #define TROPFENPFAD_REFUSED_MEMORY      1 /* memory_length is not the profile's: 65,536 or 16,384 */
-#define TROPFENPFAD_REFUSED_OUTPUT      2 /* output, a frame or a list has not the length that the call wants */
+#define TROPFENPFAD_REFUSED_OUTPUT      2 /* output, frame or list has not its right length */
 #define TROPFENPFAD_REFUSED_MODE        3 /* mode is above 7 */
 #define TROPFENPFAD_REFUSED_COUNTER     4 /* counter is above 31 */
 #define TROPFENPFAD_REFUSED_LINE        5 /* line is above 223 */
@@ -348,8 +349,8 @@ tropfenpfad_access tropfenpfad_write_in_place(uint8_t *memory, size_t memory_len
 /* What an unused place of that list holds; no cell has this number. */
 #define TROPFENPFAD_NO_CELL 65535
 
-/* The answer of compare: how many pixels and cells differ, and the smallest
- * rectangle that holds all of these pixels, its last x and line included. */
+/* The answer of compare: the smallest rectangle that holds all differing
+ * pixels, its last x and line included, and how many pixels and cells differ. */
 typedef struct {
   uint8_t status;     /* TROPFENPFAD_DONE or a refusal */
   bool empty;         /* no pixel differs, and the rectangle is four zeros; false on a refusal */
@@ -377,9 +378,9 @@ typedef struct {
  *                                      differing cells by line and then column
  *                                      as far as there is room, then 65,535
  *
- * Returns the rectangle and both counts. Equal frames give 0 everywhere but in
- * the list of cells, and empty.
- * Refuses: 2 output, where a frame or a list has another length.
+ * Returns the rectangle and both counts. Equal frames give an empty rectangle
+ * and counts of 0, line by line too.
+ * Refuses: 2 output, for either frame and either list.
  */
 tropfenpfad_comparison tropfenpfad_compare(const uint8_t *first, size_t first_length,
                                            const uint8_t *second, size_t second_length,

@@ -31,7 +31,7 @@ pub struct Rectangle {
 /// Says where two frames differ; any byte is allowed as a pixel. A cell differs if one of its six
 /// pixels does, and its number is 40 times the line plus the column. `line_counts` takes how many
 /// pixels of each of the 224 lines differ, `cells` the numbers of the first 64 differing cells, and
-/// 65,535 in each place that is left. Refuses output, where a frame or a list has another length.
+/// 65,535 in each place that is left. Refuses output, for either frame and either list.
 ///
 /// ```
 /// use tropfenpfad::{compare, Rectangle, FRAME_LENGTH, LINES, LISTED_CELLS, NO_CELL};

@@ -13,7 +13,7 @@ use super::refusal::{first_of, of_output};
 /// Pixels in a cell.
 pub const CELL_LENGTH: usize = 6;
 
-/// The numbers of pixels in a frame at which something is the case.
+/// Places in a frame, each 240 times the line plus x.
 pub type Places = BTreeSet<usize>;
 
 /// Says where two frames differ.

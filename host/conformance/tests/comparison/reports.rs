@@ -313,9 +313,14 @@ fn pixels_compared_by_some_of_their_bits() {
             bench.pair(&what, &first, &second, &once(place).collect());
             second[place] = byte;
         }
-        let opposite = vec![!byte; FRAME_LENGTH];
-        let everywhere = (0..FRAME_LENGTH).collect();
-        bench.pair("a byte and its opposite", &first, &opposite, &everywhere);
+    }
+    // The same difference everywhere: pixels that are equal mod 8, mod 128, and opposite.
+    let first = random_bytes(6, FRAME_LENGTH);
+    let everywhere = (0..FRAME_LENGTH).collect();
+    for difference in [0x08, 0x78, 0x80, 0xF8, 0xFF] {
+        let second: Vec<u8> = first.iter().map(|byte| byte ^ difference).collect();
+        let what = format!("a difference of {difference} everywhere");
+        bench.pair(&what, &first, &second, &everywhere);
     }
     bench.finish("bytes");
 }

@@ -37,10 +37,10 @@ impl Both {
     /// Compares the same frames by both, with this much of the lists.
     #[track_caller]
     fn compare(&mut self, first: &[u8], second: &[u8], counted: usize, listed: usize) {
-        let [counts, others] = self.line_counts.each_mut().map(|list| &mut list[..counted]);
-        let [cells, further] = self.cells.each_mut().map(|list| &mut list[..listed]);
+        let [counts, wrapper_counts] = self.line_counts.each_mut().map(|list| &mut list[..counted]);
+        let [cells, wrapper_cells] = self.cells.each_mut().map(|list| &mut list[..listed]);
         let answer = calls::compare(first, second, counts, cells);
-        let given = tropfenpfad::compare(first, second, others, further);
+        let given = tropfenpfad::compare(first, second, wrapper_counts, wrapper_cells);
         assert_eq!(given, differences(answer));
         assert!(self.line_counts[0] == self.line_counts[1], "line counts");
         assert!(self.cells[0] == self.cells[1], "cells");
