@@ -100,10 +100,8 @@ impl Tally {
         if target < TARGETS {
             next.counts[target] = std::num::wrapping_add_u64(next.counts[target], 1);
         }
-        let low = (decoded.number % 256) as u8;
-        let high = (decoded.number / 256) as u8;
         let d = mixing::digest_byte(self.digest, decoded.target);
-        next.digest = mixing::digest_byte(mixing::digest_byte(d, low), high);
+        next.digest = mixing::digest_number(d, decoded.number);
         next
     }
 }

@@ -10,7 +10,7 @@ use video::State;
 
 const KINDS: u8 = 4;
 
-const RANDOM: u8 = 0;
+pub(crate) const RANDOM: u8 = 0;
 
 const ATTRIBUTES: u8 = 1;
 
@@ -81,7 +81,7 @@ fn counter_of(choice: u8) -> u8 {
     }
 }
 
-fn fill(image: &mut [u8], kind: u8, seed: u64) {
+pub(crate) fn fill(image: &mut [u8], kind: u8, seed: u64) {
     let mut x = seed;
     let mut at = 0;
     while at < image.len() {

@@ -1,5 +1,6 @@
 // The figures of document 01 that are run, the decode of every address, and digests of generated frames, a line each; then the same
-// of the 16K machine.
+// of the 16K machine; then comparisons of frames.
+mod comparing;
 mod decoding;
 mod generated;
 mod mixing;
@@ -18,4 +19,6 @@ fn main() {
     painting::profiles();
     decoding::settings_16k();
     generated::frames(PROFILE_16K);
+    comparing::pairs();
+    comparing::lengths();
 }

@@ -30,3 +30,20 @@ pub(crate) fn digest(bytes: &[u8]) -> u64 {
     }
     d
 }
+
+// Each number as its low byte and then its high byte.
+pub(crate) fn digest_numbers(numbers: &[u16]) -> u64 {
+    let mut d = digest_start();
+    let mut i = 0;
+    while i < numbers.len() {
+        d = digest_number(d, numbers[i]);
+        i += 1;
+    }
+    d
+}
+
+pub(crate) fn digest_number(digest: u64, number: u16) -> u64 {
+    let low = (number % 256) as u8;
+    let high = (number / 256) as u8;
+    digest_byte(digest_byte(digest, low), high)
+}

@@ -28,6 +28,10 @@ pub(crate) fn end() {
 }
 
 pub(crate) fn digest(n: u64) {
-    text(b" digest ");
+    named_digest(b" digest ", n);
+}
+
+pub(crate) fn named_digest(name: &[u8], n: u64) {
+    text(name);
     io::print_hex(STDOUT_FILENO, n, 16);
 }
