@@ -1,10 +1,10 @@
 -- What one cell adds, and that what is added cell by cell is what is added at once.
 -- Assumes nothing.
 use Prim.Native.Nat.{ℕ, _+_, _*_, _≤_, _<_, min, max}
-use mathlib.Core.Bool.{Bool, true, false}
+use mathlib.Core.Bool.{true, false}
 use mathlib.Core.List.{List, [], _∷_, _++_, map, map-append, foldl, foldl-append, List·Memᴰ, Memᴰ·map}
 use mathlib.Core.Logic.{⊎-elim}
-use mathlib.Core.Path.{_≡_, refl, sym, ap, ap₂, subst, _∙_}
+use mathlib.Core.Path.{_≡_, sym, ap, subst}
 use native.Mathlib.Nat.{add-assoc}
 use native.Mathlib.Omega.{arith}
 use lib.Dec.{ltb}
@@ -14,7 +14,6 @@ use Rattle.machine.specs.Lists.{Each}
 use Rattle.machine.specs.Sizes.{cellLength, columns, lineLength}
 use Rattle.machine.proofs.Each.{each-map}
 use Rattle.compare.specs.Internal.{FirstDifference, LastDifference, linePlaces, cellPlaces, hasPlace, cellListed, lineListed, cellsWith, foundWith}
-use Rattle.compare.specs.Numbers.{passingFrom}
 use Rattle.compare.specs.Places.{xOf, lineOf, differs}
 use Rattle.compare.proofs.Numbers.{either, clash, some, passed, failed, from-each, from-member, from-nothing, from-nowhere}
 use Rattle.compare.proofs.Picks.{AtLeast, rising, falling, fold-is, fold-all}

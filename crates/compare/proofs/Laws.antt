@@ -3,21 +3,21 @@
 use Prim.Native.Nat.{ℕ, zero, suc, _+_, _<_}
 use mathlib.Core.Bool.{Bool, true, false, not, cond}
 use mathlib.Core.List.{List, [], _∷_, _++_}
-use mathlib.Core.Path.{_≡_, refl, sym, ap, ap₂, subst, _∙_}
+use mathlib.Core.Path.{_≡_, refl, sym, ap, subst, _∙_}
 use native.Mathlib.Omega.{arith}
 use lib.Dec.{eqb}
 use lib.ListN.{length, getD, length-append}
 use lib.Seq.{ext-getD}
 use borrow.Author.Tests.{eq-eqb, ne-eqb, eqb-true, eqb-false, not-false}
 use Rattle.machine.specs.Lists.{gather}
-use Rattle.machine.specs.Refusal.{ifDone, outputCheck}
+use Rattle.machine.specs.Refusal.{outputCheck}
 use Rattle.machine.specs.Sizes.{lines, lineLength, frameLength}
 use Rattle.machine.proofs.Refusals.{done}
-use Rattle.compare.specs.Answer.{listLength, report, lineCounts, listed, uncompared, compareRefusal, statusOf, compareAnswer, countsLeft, cellsLeft}
+use Rattle.compare.specs.Answer.{report, lineCounts, statusOf, compareAnswer, countsLeft, cellsLeft}
 use Rattle.compare.specs.Internal.{linePlaces, countsIn}
-use Rattle.compare.specs.Laws.{SwapChangesNothing, LineCountsAddUp, EmptyIsEqual, Holds, Smallest, RectangleIsSmallest}
+use Rattle.compare.specs.Laws.{SwapChangesNothing, LineCountsAddUp, EmptyIsEqual, Smallest, RectangleIsSmallest}
 use Rattle.compare.specs.Numbers.{sum}
-use Rattle.compare.specs.Places.{xOf, lineOf, differs, differences, differingCells}
+use Rattle.compare.specs.Places.{xOf, lineOf, differs, differences}
 use Rattle.compare.proofs.Accepted.{accepted-lengths}
 use Rattle.compare.proofs.Numbers.{no-length, start-pieces, from-nothing, from-nowhere, from-same}
 use Rattle.compare.proofs.Picks.{rising, falling, picked-before, picked-one}
@@ -55,11 +55,8 @@ swap-changes-nothing first second counts cells =
     let status : statusOf first second counts cells ≡ statusOf second first counts cells =
     cond-swap (outputCheck frameLength (length first) .applies) (outputCheck frameLength (length second) .applies) 2 _ in
     let places : differences first second ≡ differences second first =
-    from-same (differs first second) (differs second first) 0 frameLength (λ k h. ap not (eqb-swap (getD first (0 + k) 0) (getD second (0 + k) 0))) in (
-      ap₂ (λ (n : ℕ) (l : List ℕ). ifDone n (report l) (uncompared n)) status places,
-      ap₂ (λ (n : ℕ) (l : List ℕ). ifDone n (lineCounts l) counts) status places,
-      ap₂ (λ (n : ℕ) (l : List ℕ). ifDone n (listed (differingCells l)) cells) status places,
-    )
+    from-same (differs first second) (differs second first) 0 frameLength (λ k h. ap not (eqb-swap (getD first (0 + k) 0) (getD second (0 + k) 0))) in
+    (rw (status, places), rw (status, places), rw (status, places))
 
 sum-append : (xs ys : List ℕ) → sum (xs ++ ys) ≡ sum xs + sum ys
 sum-append [] ys = omega arith

@@ -5,8 +5,8 @@ use mathlib.Core.List.{List, [], _∷_, _++_, append-nil, append-assoc}
 use mathlib.Core.Logic.{⊎-elim}
 use mathlib.Core.Path.{_≡_, sym, ap, ap₂, _∙_}
 use native.Mathlib.Omega.{arith}
-use lib.ListN.{length, take, set, replicate, length-append, length-replicate, replicate-append-replicate}
-use lib.Seq.{sets, set-append-seam, set-out, take-append-le, take-set-lt, length-take-le}
+use lib.ListN.{length, take, set, replicate, length-append, length-take, length-replicate, replicate-append-replicate}
+use lib.Seq.{sets, set-append-seam, set-out, take-append-le, take-set-lt}
 use Rattle.compare.specs.Answer.{listLength, noCell, listed}
 use Rattle.compare.proofs.Numbers.{either}
 
@@ -18,7 +18,7 @@ sets-more l i (v ∷ vs) ws =
 
 pub listed-length : (cells : List ℕ) → length (listed cells) ≡ listLength
 unfolding listed
-listed-length cells = length-take-le listLength (cells ++ replicate listLength noCell) (omega (arith, length-append cells (replicate listLength noCell), length-replicate listLength noCell))
+listed-length cells = simp (length-take, length-append, length-replicate) (omega arith)
 
 -- what is left of the list, but for one place and but for all
 rest : List ℕ

@@ -14,10 +14,10 @@ use mir.Val.{boolByte}
 use borrow.Author.Tests.{eq-eqb, ne-eqb, leb-true, leb-false}
 use Rattle.machine.specs.Lists.{gather, Each}
 use Rattle.machine.proofs.Each.{each-none, each-cons, each-head, each-tail, each-gather}
-use Rattle.machine.proofs.Lists.{gather-next, flatMap-append}
+use Rattle.machine.proofs.Lists.{gather-next, gather-same, flatMap-append}
 use Rattle.compare.specs.Numbers.{ifPassed, passingFrom, passing}
 
--- one of two orders holds, and a test says one thing
+-- of two numbers the first is at most the second, or above it
 pub either : (a b : ℕ) → (a ≤ b) ⊎ (b < a)
 either a b = go (leb a b) refl
   where
@@ -25,9 +25,11 @@ either a b = go (leb a b) refl
     go true e = inl (leb-true a b e)
     go false e = inr (leb-false a b e)
 
+-- a test says one thing
 pub clash : (b : Bool) → b ≡ true → b ≡ false → ⊥
 clash b isTrue isFalse = let z : _≡_ {A = ℕ} 0 1 = cc in omega arith
 
+-- a list that has an element has a length, and one that has no length is empty
 pub some : {n : ℕ} (ns : List ℕ) → List·Memᴰ n ns → 0 < length ns
 some [] m = absurd (List·Memᴰ·not-nil m)
 some (k ∷ ks) m = omega arith
@@ -152,10 +154,9 @@ module _ (test : ℕ → Bool) where
 -- two tests that say the same of each of the row
 pub from-same : (test other : ℕ → Bool) (from n : ℕ) → ((k : ℕ) → k < n → test (from + k) ≡ other (from + k))
     → passingFrom test from n ≡ passingFrom other from n
-unfolding passingFrom gather
-from-same test other from zero same = refl
-from-same test other from (suc n) same =
-    ap₂ _++_ (from-same test other from n (λ k h. same k (omega arith))) (rw (same n (omega arith)))
+unfolding passingFrom
+from-same test other from n same =
+    gather-same (λ (k : ℕ). ifPassed test (from + k)) (λ (k : ℕ). ifPassed other (from + k)) n (λ k h. rw (same k h))
 
 -- those of a list that pass
 module _ (test : ℕ → Bool) where

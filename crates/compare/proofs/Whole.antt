@@ -1,17 +1,18 @@
 -- What was found line by line and cell by cell is what the definitions say of all the places at once.
 -- Assumes nothing.
-use Prim.Native.Nat.{ℕ, zero, suc, _+_, _*_, _≤_, _<_, min, max}
-use mathlib.Core.Bool.{Bool, cond}
-use mathlib.Core.List.{List, [], _∷_, _++_, map, foldl}
-use mathlib.Core.Path.{_≡_, refl, sym, ap, ap₂, _∙_}
+use Prim.Native.Nat.{ℕ, _+_, _*_, _≤_, _<_, min, max}
+use mathlib.Core.Bool.{cond}
+use mathlib.Core.List.{List, [], _∷_, map, foldl}
+use mathlib.Core.Path.{_≡_, refl, sym, ap, _∙_}
 use native.Mathlib.Omega.{arith}
 use lib.Dec.{eqb, ltb, eqb·suc-zero}
 use lib.ListN.{length, length-map, replicate}
-use Rattle.machine.specs.Lists.{gather, Each}
+use Rattle.machine.specs.Lists.{Each}
 use Rattle.machine.specs.Sizes.{cellLength, columns, lines, lineLength, frameLength}
 use Rattle.machine.proofs.Each.{each-map, each-head}
+use Rattle.machine.proofs.Lists.{gather-same}
 use Rattle.compare.specs.Answer.{listLength, noCell, report, lineCounts, listed}
-use Rattle.compare.specs.Internal.{linePlaces, cellPlaces, hasPlace, cellsWith, foundWith, nothing, foundIn, countsIn, listedIn, Small, reported}
+use Rattle.compare.specs.Internal.{linePlaces, cellPlaces, hasPlace, cellsWith, foundWith, foundIn, countsIn, listedIn, Small, reported}
 use Rattle.compare.specs.Numbers.{passing, passingFrom, least, greatest}
 use Rattle.compare.specs.Places.{xOf, lineOf, cellOf, differs, differences, onLine, inCell, cellDiffers, differingCells}
 use Rattle.compare.proofs.Numbers.{one-piece, start-pieces, from-none, from-each, from-most, from-same}
@@ -25,12 +26,6 @@ least-found b (n ∷ ns) p = rw (eqb·suc-zero (length ns)) (fold-picked rising 
 greatest-found : (ns : List ℕ) → foldl max 0 ns ≡ greatest ns
 greatest-found [] = refl
 greatest-found (n ∷ ns) = fold-picked falling 0 n ns (omega arith)
-
--- one list for each number below a bound, each with one element
-gather-same : (f g : ℕ → ℕ) (n : ℕ) → ((k : ℕ) → k < n → f k ≡ g k) → gather (λ (k : ℕ). f k ∷ []) n ≡ gather (λ (k : ℕ). g k ∷ []) n
-unfolding gather
-gather-same f g zero same = refl
-gather-same f g (suc n) same = ap₂ (λ (l : List ℕ) (k : ℕ). l ++ (k ∷ [])) (gather-same f g n (λ k h. same k (omega arith))) (same n (omega arith))
 
 module _ (first second : List ℕ) where
   abbrev places : List ℕ
@@ -57,8 +52,8 @@ module _ (first second : List ℕ) where
   pub counts-are : countsIn first second lines ≡ lineCounts places
   unfolding countsIn lineCounts
   counts-are =
-      gather-same (λ (line : ℕ). length (linePlaces first second line)) (λ (line : ℕ). length (onLine places line)) lines
-      (λ line h. ap length (sym (on-line line h)))
+      gather-same (λ (line : ℕ). length (linePlaces first second line) ∷ []) (λ (line : ℕ). length (onLine places line) ∷ []) lines
+      (λ line h. ap (λ (l : List ℕ). length l ∷ []) (sym (on-line line h)))
 
   -- a list that is clear has no cell yet
   pub clear-is : replicate listLength noCell ≡ listedIn first second 0

@@ -1,6 +1,6 @@
 -- Lists of numbers: those that pass a test, the least and the greatest, the sum.
 -- Assumes nothing.
-use Prim.Native.Nat.{ℕ, zero, suc, _+_, min, max}
+use Prim.Native.Nat.{ℕ, _+_, min, max}
 use mathlib.Core.Bool.{Bool, cond}
 use mathlib.Core.List.{List, [], _∷_, flatMap, foldl}
 use Rattle.machine.specs.Lists.{gather}

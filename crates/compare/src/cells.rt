@@ -3,7 +3,7 @@ ghost use mathlib.Core.Path.{_≡_};
 ghost use Prim.Native.Nat.{_+_, _*_, _≤_, _<_};
 ghost use lib.ListN.{length, set, replicate};
 ghost use lib.Seq.{sets};
-ghost use Rattle.machine.specs.Sizes.{cellLength, columns, lines, lineLength};
+ghost use Rattle.machine.specs.Sizes.{columns, lines};
 ghost use Rattle.compare.specs.Answer.{listLength, noCell};
 ghost use Rattle.compare.specs.Internal.{AreFrames, cellsWith, cellPlaces, cellListed, lineListed, linePlaces};
 use crate::LISTED_CELLS;

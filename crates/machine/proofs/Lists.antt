@@ -18,6 +18,12 @@ pub gather-next : {A : Type 0} (f : ℕ → List A) (n : ℕ) → gather f (n + 
 unfolding gather
 gather-next f n = ap (gather f) (add-one n)
 
+-- the same pieces
+pub gather-same : {A : Type 0} (f g : ℕ → List A) (n : ℕ) → ((k : ℕ) → k < n → f k ≡ g k) → gather f n ≡ gather g n
+unfolding gather
+gather-same f g zero same = refl
+gather-same f g (suc n) same = ap₂ _++_ (gather-same f g n (λ k h. same k (omega arith))) (same n (omega arith))
+
 -- pieces whose elements are changed in one way
 pub gather-mapped : {A B : Type 0} (change : A → B) (f : ℕ → List A) (g : ℕ → List B) (n : ℕ) → ((k : ℕ) → k < n → g k ≡ map change (f k))
     → gather g n ≡ map change (gather f n)

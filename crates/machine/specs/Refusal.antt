@@ -29,7 +29,7 @@ refusal checks = refusalBefore checks 0
 abbrev pub memoryCheck : ℕ → ℕ → Check
 memoryCheck profile size = record { number = 1; applies = not (eqb size (imageLength profile)) }
 
--- 2: what is lent to be filled has not the length that is wanted
+-- 2: a lent line, frame or list has not the length that is wanted
 abbrev pub outputCheck : ℕ → ℕ → Check
 outputCheck wanted size = record { number = 2; applies = not (eqb size wanted) }
 

@@ -5,7 +5,6 @@ use Prim.Native.Nat.{_-_}
 use mathlib.Core.Path.{refl, sym, _∙_}
 use native.Mathlib.Omega.{arith}
 use denote.Ref.{now}
-use borrow.Author.Needs.{needs}
 use Rattle.machine.specs.Sizes.{lines}
 use Rattle.compare.specs.Internal.{nothing}
 use Rattle.compare.proofs.frames.find.Proof.Progress.{Reached, none, few, size, next, all}
