@@ -365,9 +365,9 @@ typedef struct {
 /*
  * Says where two frames differ.
  *
- * Any byte is allowed as a pixel, and two pixels differ if their bytes do. A
- * cell differs if one of its six pixels does, and is named by its number,
- * 40 * line + column. Swapping the frames changes nothing.
+ * A pixel may be any byte, and all eight of its bits count. A differing cell is
+ * one with a differing pixel among its six; its number is 40 * line + column.
+ * Which of the frames comes first does not matter.
  *
  *   first, first_length                53,760 bytes, pixel x of line y at
  *                                      240 * y + x; only read

@@ -15,7 +15,7 @@ use Rattle.machine.specs.Sizes.{lines, lineLength, frameLength}
 use Rattle.machine.proofs.Refusals.{done}
 use Rattle.compare.specs.Answer.{report, lineCounts, statusOf, compareAnswer, countsLeft, cellsLeft}
 use Rattle.compare.specs.Internal.{linePlaces, countsIn}
-use Rattle.compare.specs.Laws.{SwapChangesNothing, LineCountsAddUp, EmptyIsEqual, Smallest, RectangleIsSmallest}
+use Rattle.compare.specs.Laws.{ComparisonIsSymmetric, LineCountsSumToPixels, EmptyIsEqual, Smallest, RectangleIsSmallest}
 use Rattle.compare.specs.Numbers.{sum}
 use Rattle.compare.specs.Places.{xOf, lineOf, differs, differences}
 use Rattle.compare.proofs.Accepted.{accepted-lengths}
@@ -49,9 +49,9 @@ cond-swap true false number later = refl
 cond-swap false true number later = refl
 cond-swap false false number later = refl
 
-pub swap-changes-nothing : SwapChangesNothing
+pub comparison-is-symmetric : ComparisonIsSymmetric
 unfolding compareAnswer countsLeft cellsLeft
-swap-changes-nothing first second counts cells =
+comparison-is-symmetric first second counts cells =
     let status : statusOf first second counts cells ≡ statusOf second first counts cells =
     cond-swap (outputCheck frameLength (length first) .applies) (outputCheck frameLength (length second) .applies) 2 _ in
     let places : differences first second ≡ differences second first =
@@ -70,9 +70,9 @@ sum-lengths piece (suc n) =
     sum-append (gather (λ (k : ℕ). length (piece k) ∷ []) n) (length (piece n) ∷ [])
     ∙ omega (arith, sum-lengths piece n, length-append (gather piece n) (piece n))
 
-pub line-counts-add-up : LineCountsAddUp
+pub line-counts-sum-to-pixels : LineCountsSumToPixels
 unfolding report countsIn
-line-counts-add-up first second counts cells accepted =
+line-counts-sum-to-pixels first second counts cells accepted =
     ap sum (counted first second counts cells accepted ∙ sym (counts-are first second))
     ∙ sum-lengths (linePlaces first second) lines
     ∙ ap length (sym (start-pieces (differs first second) lineLength lines))

@@ -10,17 +10,17 @@ use Rattle.compare.specs.Numbers.{sum}
 use Rattle.compare.specs.Places.{xOf, lineOf, differences}
 use Rattle.compare.specs.declared.comparison.Comparison.{Comparison}
 
--- swapping the frames changes nothing, refused or not
-abbrev pub SwapChangesNothing : Type 0
-SwapChangesNothing =
+-- it does not matter which frame comes first, refused or not
+abbrev pub ComparisonIsSymmetric : Type 0
+ComparisonIsSymmetric =
     (first second counts cells : List ℕ)
     → (compareAnswer first second counts cells ≡ compareAnswer second first counts cells)
     × (countsLeft first second counts cells ≡ countsLeft second first counts cells)
     × (cellsLeft first second counts cells ≡ cellsLeft second first counts cells)
 
--- the line counts come to the number of pixels
-abbrev pub LineCountsAddUp : Type 0
-LineCountsAddUp =
+-- the sum of the line counts is the number of pixels
+abbrev pub LineCountsSumToPixels : Type 0
+LineCountsSumToPixels =
     (first second counts cells : List ℕ) → statusOf first second counts cells ≡ 0
     → sum (countsLeft first second counts cells) ≡ compareAnswer first second counts cells .pixels
 

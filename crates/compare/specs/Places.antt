@@ -15,7 +15,7 @@ xOf place = place % lineLength
 abbrev pub lineOf : ℕ → ℕ
 lineOf place = place / lineLength
 
--- a cell is named by 40 x line + column
+-- the number of the cell, of which each line has forty
 abbrev pub cellOf : ℕ → ℕ
 cellOf place = columns * lineOf place + xOf place / cellLength
 
@@ -35,7 +35,7 @@ onLine places line = passing (λ (place : ℕ). eqb (lineOf place) line) places
 abbrev pub inCell : List ℕ → ℕ → List ℕ
 inCell places cell = passing (λ (place : ℕ). eqb (cellOf place) cell) places
 
--- a cell differs if one of its six pixels does
+-- a differing cell is one with such a place in it
 abbrev pub cellDiffers : List ℕ → ℕ → Bool
 cellDiffers places cell = ltb 0 (length (inCell places cell))
 

@@ -28,10 +28,10 @@ pub struct Rectangle {
     pub last_line: u8,
 }
 
-/// Says where two frames differ; any byte is allowed as a pixel. A cell differs if one of its six
-/// pixels does, and its number is 40 times the line plus the column. `line_counts` takes how many
-/// pixels of each of the 224 lines differ, `cells` the numbers of the first 64 differing cells, and
-/// 65,535 in each place that is left. Refuses output, for either frame and either list.
+/// Says where two frames differ; a pixel may be any byte. A differing cell is one with a differing
+/// pixel among its six, and its number is 40 times the line plus the column. `line_counts` takes how
+/// many pixels of each of the 224 lines differ, `cells` the numbers of the first 64 differing cells,
+/// and 65,535 in each place that is left. Refuses output, for either frame and either list.
 ///
 /// ```
 /// use tropfenpfad::{compare, Rectangle, FRAME_LENGTH, LINES, LISTED_CELLS, NO_CELL};
