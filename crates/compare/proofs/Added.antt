@@ -16,10 +16,11 @@ use Rattle.machine.proofs.Each.{each-map}
 use Rattle.compare.specs.Internal.{FirstDifference, LastDifference, linePlaces, cellPlaces, hasPlace, cellListed, lineListed, cellsWith, foundWith}
 use Rattle.compare.specs.Places.{xOf, lineOf, differs}
 use Rattle.compare.proofs.Numbers.{either, clash, some, passed, failed, from-each, from-member, from-nothing, from-nowhere}
-use Rattle.compare.proofs.Picks.{AtLeast, rising, falling, fold-is, fold-all}
+use Rattle.compare.proofs.Picks.{Order, rising, falling, fold-is, fold-all}
 use Rattle.compare.specs.declared.comparison.Cells.{Cells}
 use Rattle.compare.specs.declared.comparison.Found.{Found}
 
+-- nothing more, and some more
 pub cells-none : (before : Cells) → cellsWith before [] [] ≡ before
 unfolding cellsWith
 cells-none before = let e : before .count + 0 ≡ before .count = omega arith in rw e
@@ -59,32 +60,37 @@ module _ (first second : List ℕ) where
     x-of : (k : ℕ) → k < cellLength → xOf (from + k) ≡ cellLength * column + k
     x-of k h = omega arith
 
+    abbrev xs : List ℕ
+    xs = map xOf (cellPlaces first second cell)
+
+    -- a differing pixel that stands before all others of the cell in an order decides
+    side : {pick : ℕ → ℕ → ℕ} {Before : ℕ → ℕ → Type 0} (order : Order pick Before) (k : ℕ) → k < cellLength
+        → differs first second (from + k) ≡ true
+        → ((i : ℕ) → i < cellLength → differs first second (from + i) ≡ true → Before (cellLength * column + k) (cellLength * column + i))
+        → (b : ℕ) → foldl pick b xs ≡ pick b (cellLength * column + k)
+    side {pick} {Before} order k h here others b =
+        let x = cellLength * column + k in
+        let member = subst (λ (n : ℕ). List·Memᴰ n xs) (x-of k h) (Memᴰ·map xOf (from-member (differs first second) from cellLength k h here)) in
+        fold-is order b x xs member
+        (each-map (Before x) xOf (cellPlaces first second cell)
+        (from-each (differs first second) (λ (place : ℕ). Before x (xOf place)) from cellLength
+        (λ i h′ e. subst (Before x) (sym (x-of i h′)) (others i h′ e))))
+
     module _ (least greatest : ℕ) (f : FirstDifference first second from least) (less : least < cellLength) (l : LastDifference first second from greatest) where
-      member : (k : ℕ) → k < cellLength → differs first second (from + k) ≡ true → List·Memᴰ (cellLength * column + k) (map xOf (cellPlaces first second cell))
-      member k h e =
-          subst (λ (x : ℕ). List·Memᴰ x (map xOf (cellPlaces first second cell))) (x-of k h) (Memᴰ·map xOf (from-member (differs first second) from cellLength k h e))
-
-      each : (P : ℕ → Type 0) → ((k : ℕ) → k < cellLength → differs first second (from + k) ≡ true → P (cellLength * column + k)) → Each P (map xOf (cellPlaces first second cell))
-      each P p =
-          each-map P xOf (cellPlaces first second cell)
-          (from-each (differs first second) (λ (place : ℕ). P (xOf place)) from cellLength (λ k h e. subst P (sym (x-of k h)) (p k h e)))
-
       pub listed-once : cellListed first second cell ≡ cell ∷ []
       listed-once =
           passed (hasPlace first second) cell
           (lt-ltb 0 (length (cellPlaces first second cell)) (some (cellPlaces first second cell) (from-member (differs first second) from cellLength least less (f .here less))))
 
-      left-of : (b : ℕ) → foldl min b (map xOf (cellPlaces first second cell)) ≡ min b (cellLength * column + least)
-      left-of b =
-          fold-is rising b (cellLength * column + least) (map xOf (cellPlaces first second cell)) (member least less (f .here less))
-          (each (λ (x : ℕ). cellLength * column + least ≤ x)
-          (λ k h e. ⊎-elim (λ (le : least ≤ k). omega arith) (λ (lt : k < least). absurd (clash (differs first second (from + k)) e (f .before k lt))) (either least k)))
+      left-of : (b : ℕ) → foldl min b xs ≡ min b (cellLength * column + least)
+      left-of =
+          side rising least less (f .here less)
+          (λ i h e. ⊎-elim (λ (le : least ≤ i). omega arith) (λ (lt : i < least). absurd (clash (differs first second (from + i)) e (f .before i lt))) (either least i))
 
-      right-of : (b : ℕ) → foldl max b (map xOf (cellPlaces first second cell)) ≡ max b (cellLength * column + greatest)
-      right-of b =
-          fold-is falling b (cellLength * column + greatest) (map xOf (cellPlaces first second cell)) (member greatest (l .within) (l .here))
-          (each (AtLeast (cellLength * column + greatest))
-          (λ k h e. ⊎-elim (λ (le : k ≤ greatest). omega arith) (λ (lt : greatest < k). absurd (clash (differs first second (from + k)) e (l .after k lt h))) (either k greatest)))
+      right-of : (b : ℕ) → foldl max b xs ≡ max b (cellLength * column + greatest)
+      right-of =
+          side falling greatest (l .within) (l .here)
+          (λ i h e. ⊎-elim (λ (le : i ≤ greatest). omega arith) (λ (lt : greatest < i). absurd (clash (differs first second (from + i)) e (l .after i lt h))) (either i greatest))
 
       pub cell-adds : (before : Cells)
           → _≡_ {A = Cells}

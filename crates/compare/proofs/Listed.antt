@@ -1,6 +1,6 @@
 -- The list of cells: a cell more is set at the next place, which past the end of the list changes nothing.
 -- Assumes nothing.
-use Prim.Native.Nat.{ℕ, suc, _+_, _≤_, _<_}
+use Prim.Native.Nat.{ℕ, suc, _+_, _-_, _≤_, _<_}
 use mathlib.Core.List.{List, [], _∷_, _++_, append-nil, append-assoc}
 use mathlib.Core.Logic.{⊎-elim}
 use mathlib.Core.Path.{_≡_, sym, ap, ap₂, _∙_}
@@ -20,9 +20,9 @@ pub listed-length : (cells : List ℕ) → length (listed cells) ≡ listLength
 unfolding listed
 listed-length cells = simp (length-take, length-append, length-replicate) (omega arith)
 
--- what is left of the list, but for one place and but for all
+-- what is left over of a list that has one cell
 rest : List ℕ
-rest = replicate 63 noCell
+rest = replicate (listLength - 1) noCell
 
 -- one cell more
 pub listed-next : (cells : List ℕ) (cell : ℕ) → set (listed cells) (length cells) cell ≡ listed (cells ++ (cell ∷ []))
@@ -45,7 +45,7 @@ listed-next cells cell = ⊎-elim full room (either listLength (length cells))
         sym (take-set-lt listLength (cells ++ unused) (length cells) cell h)
         ∙ ap (take listLength) (set-append-seam cells noCell rest cell ∙ sym (append-assoc cells (cell ∷ []) rest))
         ∙ sym (take-append-le listLength (head ++ rest) (noCell ∷ []) long)
-        ∙ ap (take listLength) (append-assoc head rest (noCell ∷ []) ∙ ap (λ (l : List ℕ). head ++ l) (replicate-append-replicate 63 1 noCell))
+        ∙ ap (take listLength) (append-assoc head rest (noCell ∷ []) ∙ ap (λ (l : List ℕ). head ++ l) (replicate-append-replicate (listLength - 1) 1 noCell))
 
 pub listed-more : (cells more : List ℕ) → sets (listed cells) (length cells) more ≡ listed (cells ++ more)
 listed-more cells [] = ap listed (sym (append-nil cells))

@@ -31,18 +31,21 @@ module _ (first second : List ℕ) where
   abbrev places : List ℕ
   places = differences first second
 
-  -- the places of one cell, and of one line, are those that were compared there
+  -- of places that are numbered piece by piece, those with one number are the differing ones of one piece
+  one-number : (number : ℕ → ℕ) (size count : ℕ) → size * count ≡ frameLength
+      → ((i k : ℕ) → k < size → number (size * i + k) ≡ i)
+      → (n : ℕ) → n < count → passing (λ (place : ℕ). eqb (number place) n) places ≡ passingFrom (differs first second) (size * n) size
+  one-number number size count whole numbered n h =
+      ap (λ (m : ℕ). passing (λ (place : ℕ). eqb (number place) n) (passingFrom (differs first second) 0 m)) (sym whole)
+      ∙ ap (passing (λ (place : ℕ). eqb (number place) n)) (start-pieces (differs first second) size count)
+      ∙ one-piece number (λ (k : ℕ). passingFrom (differs first second) (size * k) size) count
+      (λ i less. from-each (differs first second) (λ (place : ℕ). number place ≡ i) (size * i) size (λ k h′ e. numbered i k h′)) n h
+
   in-cell : (cell : ℕ) → cell < columns * lines → inCell places cell ≡ cellPlaces first second cell
-  in-cell cell h =
-      ap (passing (λ (place : ℕ). eqb (cellOf place) cell)) (start-pieces (differs first second) cellLength (columns * lines))
-      ∙ one-piece cellOf (cellPlaces first second) (columns * lines)
-      (λ i less. from-each (differs first second) (λ (place : ℕ). cellOf place ≡ i) (cellLength * i) cellLength (λ k h′ e. omega arith)) cell h
+  in-cell = one-number cellOf cellLength (columns * lines) refl (λ i k h. omega arith)
 
   on-line : (line : ℕ) → line < lines → onLine places line ≡ linePlaces first second line
-  on-line line h =
-      ap (passing (λ (place : ℕ). eqb (lineOf place) line)) (start-pieces (differs first second) lineLength lines)
-      ∙ one-piece lineOf (linePlaces first second) lines
-      (λ i less. from-each (differs first second) (λ (place : ℕ). lineOf place ≡ i) (lineLength * i) lineLength (λ k h′ e. omega arith)) line h
+  on-line = one-number lineOf lineLength lines refl (λ i k h. omega arith)
 
   cells-are : passingFrom (hasPlace first second) 0 (columns * lines) ≡ differingCells places
   cells-are =
@@ -64,23 +67,26 @@ module _ (first second : List ℕ) where
   unfolding listedIn
   listed-are = ap listed cells-are
 
-  -- a place of a frame
-  inside : (P : ℕ → Type 0) → ((place : ℕ) → place < frameLength → P place) → Each P places
-  inside P p = from-each (differs first second) P 0 frameLength (λ k h e. p (0 + k) (omega arith))
+  -- the x and the line of each place
+  each-number : (number : ℕ → ℕ) (bound : ℕ) → ((place : ℕ) → place < frameLength → number place < bound)
+      → (P : ℕ → Type 0) → ((n : ℕ) → n < bound → P n) → Each P (map number places)
+  each-number number bound bounded P p =
+      each-map P number places
+      (from-each (differs first second) (λ (place : ℕ). P (number place)) 0 frameLength (λ k h e. p (number (0 + k)) (bounded (0 + k) (omega arith))))
 
-  xs : (P : ℕ → Type 0) → ((x : ℕ) → x < lineLength → P x) → Each P (map xOf places)
-  xs P p = each-map P xOf places (inside (λ (place : ℕ). P (xOf place)) (λ place h. p (xOf place) (omega arith)))
+  each-x : (P : ℕ → Type 0) → ((x : ℕ) → x < lineLength → P x) → Each P (map xOf places)
+  each-x = each-number xOf lineLength (λ place h. omega arith)
 
-  ys : (P : ℕ → Type 0) → ((line : ℕ) → line < lines → P line) → Each P (map lineOf places)
-  ys P p = each-map P lineOf places (inside (λ (place : ℕ). P (lineOf place)) (λ place h. p (lineOf place) (omega arith)))
+  each-line : (P : ℕ → Type 0) → ((line : ℕ) → line < lines → P line) → Each P (map lineOf places)
+  each-line = each-number lineOf lines (λ place h. omega arith)
 
   pub small : Small (foundIn first second lines)
   unfolding foundIn foundWith cellsWith
   small = record {
     left = omega (arith, fold-first rising lineLength (map xOf places));
-    right = omega (arith, fold-bound falling lineLength 0 (map xOf places) (omega arith) (xs (AtLeast lineLength) (λ x h. omega arith)));
+    right = omega (arith, fold-bound falling lineLength 0 (map xOf places) (omega arith) (each-x (AtLeast lineLength) (λ x h. omega arith)));
     top = omega (arith, fold-first rising lines (map lineOf places));
-    bottom = omega (arith, fold-bound falling lines 0 (map lineOf places) (omega arith) (ys (AtLeast lines) (λ x h. omega arith)));
+    bottom = omega (arith, fold-bound falling lines 0 (map lineOf places) (omega arith) (each-line (AtLeast lines) (λ x h. omega arith)));
     pixels = omega (arith, from-most (differs first second) 0 frameLength);
     cells = omega (arith, from-most (hasPlace first second) 0 (columns * lines));
   }
@@ -91,6 +97,6 @@ module _ (first second : List ℕ) where
       let pixels : 0 + length places ≡ length places = omega arith in
       let count : 0 + length (passingFrom (hasPlace first second) 0 (columns * lines)) ≡ length (differingCells places) =
       omega (arith, ap length cells-are) in
-      let left = rw (length-map places xOf) at (least-found lineLength (map xOf places) (xs (λ (x : ℕ). x ≤ lineLength) (λ x h. omega arith))) in
-      let top = rw (length-map places lineOf) at (least-found lines (map lineOf places) (ys (λ (line : ℕ). line ≤ lines) (λ line h. omega arith))) in
+      let left = rw (length-map places xOf) at (least-found lineLength (map xOf places) (each-x (λ (x : ℕ). x ≤ lineLength) (λ x h. omega arith))) in
+      let top = rw (length-map places lineOf) at (least-found lines (map lineOf places) (each-line (λ (line : ℕ). line ≤ lines) (λ line h. omega arith))) in
       rw (pixels, left, greatest-found (map xOf places), top, greatest-found (map lineOf places), count)
