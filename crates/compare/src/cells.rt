@@ -51,7 +51,7 @@ pub(crate) fn find_cells(
     found
 }
 
-// A cell's six pixels first, then what a differing cell adds.
+// What one cell adds: nothing where none of its pixels differs, else itself and how far its differing pixels reach.
 fn find_cell(
     first: &[u8],
     second: &[u8],

@@ -1,12 +1,12 @@
 // What a comparison answers, and what it has found on the way there.
 ghost use mathlib.Core.Path.{_≡_};
-ghost use Prim.Native.Nat.{_<_, min, max};
+ghost use mathlib.Core.Bool.{cond};
+ghost use Prim.Native.Nat.{_≤_, min, max};
 ghost use Rattle.compare.specs.Answer.{uncompared};
 ghost use Rattle.compare.specs.Internal.{nothing, Small, reported};
 use machine::DONE;
 use machine::LINE_LENGTH;
 use machine::LINES;
-use machine::choose_address;
 
 #[repr(C)]
 pub struct Comparison {
@@ -75,14 +75,22 @@ impl Found {
         Comparison {
             status: DONE,
             empty,
-            first_x: choose_address(empty, 0, cells.left) as u8,
+            first_x: side(empty, cells.left) as u8,
             last_x: cells.right as u8,
-            first_line: choose_address(empty, 0, self.top) as u8,
+            first_line: side(empty, self.top) as u8,
             last_line: self.bottom as u8,
             pixels: self.pixels as u32,
             cells: cells.count as u32,
         }
     }
+}
+
+// Where nothing differs a side of the rectangle is 0. The second clause follows from the first; a side fits a byte by it.
+fn side(empty: bool, n: usize) -> usize
+    ensures { λ r. ⌜ r ≡ cond empty 0 n ⌝ }
+    ensures { λ r. ⌜ r ≤ n ⌝ }
+{
+    if empty { 0 } else { n }
 }
 
 pub(crate) fn lower(a: usize, b: usize) -> usize

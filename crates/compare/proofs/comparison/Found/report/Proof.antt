@@ -1,4 +1,4 @@
--- `compare::comparison::Found::report` meets its contract: the choices are the definition's.
+-- `compare::comparison::Found::report` meets its contract: the sides are the definition's.
 -- Assumes nothing.
 use borrow.Author.Needs.{needs}
 use Rattle.compare.specs.Internal.{reported}
@@ -9,7 +9,7 @@ returns : tie.Need-returns
 unfolding reported
 returns c =
     let k = c .before .before .before in
-    rw (k .choose-address2 .ensures .0, k .before .before .choose-address .ensures .0)
+    rw (k .side2 .ensures .0, k .before .before .side .ensures .0)
 
 pub report-spec : {M : Type 1} → statement M
 report-spec =
