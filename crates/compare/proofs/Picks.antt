@@ -92,6 +92,10 @@ module _ {pick : ℕ → ℕ → ℕ} {Before : ℕ → ℕ → Type 0} (order :
       order .both (foldl pick b ns) (pick b m) (order .bound b m (foldl pick b ns) (fold-first b ns) (fold-each b ns m here))
       (fold-bound (pick b m) b ns (order .first b m) (λ n at. order .through (pick b m) m n (order .second b m) (p n at)))
 
+  -- a start that stands before all of the list stays
+  pub fold-kept : (b : ℕ) (ns : List ℕ) → Each (Before b) ns → foldl pick b ns ≡ b
+  fold-kept b ns p = order .both (foldl pick b ns) b (fold-first b ns) (fold-bound b b ns (order .same b) p)
+
   -- a start that none stands behind does not matter
   pub fold-picked : (b n : ℕ) (ns : List ℕ) → Before n b → foldl pick b (n ∷ ns) ≡ picked pick (n ∷ ns)
   fold-picked b n ns h = ap (λ (m : ℕ). foldl pick m ns) (picks b n h)

@@ -12,7 +12,7 @@ use Rattle.machine.specs.Sizes.{cellLength, columns, lines, lineLength, frameLe
 use Rattle.machine.proofs.Each.{each-map, each-head}
 use Rattle.machine.proofs.Lists.{gather-same}
 use Rattle.compare.specs.Answer.{listLength, noCell, report, lineCounts, listed}
-use Rattle.compare.specs.Internal.{linePlaces, cellPlaces, hasPlace, cellsWith, foundWith, foundIn, countsIn, listedIn, Small, reported}
+use Rattle.compare.specs.Internal.{linePlaces, cellPlaces, hasPlace, foundWith, foundIn, countsIn, listedIn, Small, reported}
 use Rattle.compare.specs.Numbers.{passing, passingFrom, least, greatest}
 use Rattle.compare.specs.Places.{xOf, lineOf, cellOf, differs, differences, onLine, inCell, cellDiffers, differingCells}
 use Rattle.compare.proofs.Numbers.{one-piece, start-pieces, from-none, from-each, from-most, from-same}
@@ -81,7 +81,7 @@ module _ (first second : List ℕ) where
   each-line = each-number lineOf lines (λ place h. omega arith)
 
   pub small : Small (foundIn first second lines)
-  unfolding foundIn foundWith cellsWith
+  unfolding foundIn foundWith
   small = record {
     left = omega (arith, fold-first rising lineLength (map xOf places));
     right = omega (arith, fold-bound falling lineLength 0 (map xOf places) (omega arith) (each-x (AtLeast lineLength) (λ x h. omega arith)));
@@ -92,7 +92,7 @@ module _ (first second : List ℕ) where
   }
 
   pub report-is : reported (foundIn first second lines) ≡ report places
-  unfolding reported report foundIn foundWith cellsWith
+  unfolding reported report foundIn foundWith
   report-is =
       let pixels : 0 + length places ≡ length places = omega arith in
       let count : 0 + length (passingFrom (hasPlace first second) 0 (columns * lines)) ≡ length (differingCells places) =

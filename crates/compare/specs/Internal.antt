@@ -1,7 +1,7 @@
 -- What the functions of this crate promise to each other.
 -- Assumes nothing.
-use Prim.Native.Nat.{ℕ, _+_, _*_, _≤_, _<_, min, max}
-use mathlib.Core.Bool.{Bool, true, false, cond}
+use Prim.Native.Nat.{ℕ, _+_, _*_, _<_, min, max}
+use mathlib.Core.Bool.{Bool, cond}
 use mathlib.Core.List.{List, [], _∷_, map, foldl}
 use mathlib.Core.Path.{_≡_}
 use lib.Dec.{eqb, ltb}
@@ -12,7 +12,6 @@ use Rattle.compare.specs.Answer.{listed}
 use Rattle.compare.specs.Numbers.{ifPassed, passingFrom}
 use Rattle.compare.specs.Places.{xOf, lineOf, differs}
 use Rattle.compare.specs.declared.comparison.Comparison.{Comparison}
-use Rattle.compare.specs.declared.comparison.Cells.{Cells}
 use Rattle.compare.specs.declared.comparison.Found.{Found}
 
 pub record AreFrames (first second : List ℕ) : Type 0 where
@@ -20,18 +19,6 @@ pub record AreFrames (first second : List ℕ) : Type 0 where
   pub other : length second ≡ frameLength
 
 module _ (first second : List ℕ) where
-  -- of the six pixels from a place on, which is the first that differs; 6 where none does
-  pub record FirstDifference (from k : ℕ) : Type 0 where
-    pub within : k ≤ cellLength
-    pub before : (i : ℕ) → i < k → differs first second (from + i) ≡ false
-    pub here : k < cellLength → differs first second (from + k) ≡ true
-
-  -- and which is the last
-  pub record LastDifference (from k : ℕ) : Type 0 where
-    pub within : k < cellLength
-    pub after : (i : ℕ) → k < i → i < cellLength → differs first second (from + i) ≡ false
-    pub here : differs first second (from + k) ≡ true
-
   -- the differing places of a line, and of a cell
   abbrev pub linePlaces : ℕ → List ℕ
   linePlaces line = passingFrom (differs first second) (lineLength * line) lineLength
@@ -51,24 +38,19 @@ module _ (first second : List ℕ) where
   lineListed line = passingFrom hasPlace (columns * line) columns
 
 -- some places and cells more
-unfoldable pub cellsWith : Cells → List ℕ → List ℕ → Cells
-cellsWith before places cells = record {
-  left = foldl min (before .left) (map xOf places);
-  right = foldl max (before .right) (map xOf places);
-  count = before .count + length cells;
-}
-
 unfoldable pub foundWith : Found → List ℕ → List ℕ → Found
 foundWith before places cells = record {
-  cells = cellsWith (before .cells) places cells;
+  left = foldl min (before .left) (map xOf places);
+  right = foldl max (before .right) (map xOf places);
   top = foldl min (before .top) (map lineOf places);
   bottom = foldl max (before .bottom) (map lineOf places);
   pixels = before .pixels + length places;
+  cells = before .cells + length cells;
 }
 
 -- before the first line
 abbrev pub nothing : Found
-nothing = record { cells = record { left = lineLength; right = 0; count = 0 }; top = lines; bottom = 0; pixels = 0 }
+nothing = record { left = lineLength; right = 0; top = lines; bottom = 0; pixels = 0; cells = 0 }
 
 -- what the lines before one come to
 module _ (first second : List ℕ) (line : ℕ) where
@@ -84,12 +66,12 @@ module _ (first second : List ℕ) (line : ℕ) where
 
 -- what was found fits the answer
 pub record Small (found : Found) : Type 0 where
-  pub left : found .cells .left < 256
-  pub right : found .cells .right < 256
+  pub left : found .left < 256
+  pub right : found .right < 256
   pub top : found .top < 256
   pub bottom : found .bottom < 256
   pub pixels : found .pixels < 4294967296
-  pub cells : found .cells .count < 4294967296
+  pub cells : found .cells < 4294967296
 
 -- where no pixel differs the least x and the least line are 0
 unfoldable pub reported : Found → Comparison
@@ -98,10 +80,10 @@ reported found =
     record {
       status = 0;
       empty = empty;
-      «first_x» = cond empty 0 (found .cells .left);
-      «last_x» = found .cells .right;
+      «first_x» = cond empty 0 (found .left);
+      «last_x» = found .right;
       «first_line» = cond empty 0 (found .top);
       «last_line» = found .bottom;
       pixels = found .pixels;
-      cells = found .cells .count;
+      cells = found .cells;
     }

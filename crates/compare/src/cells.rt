@@ -5,14 +5,10 @@ ghost use lib.ListN.{length, set, replicate};
 ghost use lib.Seq.{sets};
 ghost use Rattle.machine.specs.Sizes.{columns, lines};
 ghost use Rattle.compare.specs.Answer.{listLength, noCell};
-ghost use Rattle.compare.specs.Internal.{AreFrames, cellsWith, cellPlaces, cellListed, lineListed, linePlaces};
+ghost use Rattle.compare.specs.Internal.{AreFrames, cellListed, lineListed};
 use crate::LISTED_CELLS;
 use crate::NO_CELL;
-use crate::comparison::Cells;
-use crate::comparison::higher;
-use crate::comparison::lower;
-use crate::pixels::first_difference;
-use crate::pixels::last_difference;
+use crate::pixels::cell_differs;
 use machine::CELL_LENGTH;
 use machine::COLUMNS;
 
@@ -27,61 +23,50 @@ pub(crate) fn clear(cells: &mut [u16])
     }
 }
 
-// What the cells of a line add to those before.
-pub(crate) fn find_cells(
+// How many cells differ with those of a line, which go into the list.
+pub(crate) fn list_cells(
     first: &[u8],
     second: &[u8],
     line: usize,
-    before: Cells,
+    before: usize,
     cells: &mut [u16],
-) -> Cells
+) -> usize
     requires { ⌜ AreFrames (now first) (now second) ⌝ }
     requires { ⌜ line < lines ⌝ }
-    requires { ⌜ before .count ≤ columns * line ⌝ }
+    requires { ⌜ before ≤ columns * line ⌝ }
     requires { ⌜ length (now cells) ≡ listLength ⌝ }
-    ensures { λ r. ⌜ r ≡ cellsWith before (linePlaces (now (first .entry)) (now (second .entry)) line) (lineListed (now (first .entry)) (now (second .entry)) line) ⌝ }
-    ensures { λ r. ⌜ now (cells .exit) ≡ sets (now (cells .entry)) (before .count) (lineListed (now (first .entry)) (now (second .entry)) line) ⌝ }
+    ensures { λ r. ⌜ r ≡ before + length (lineListed (now (first .entry)) (now (second .entry)) line) ⌝ }
+    ensures { λ r. ⌜ now (cells .exit) ≡ sets (now (cells .entry)) before (lineListed (now (first .entry)) (now (second .entry)) line) ⌝ }
 {
-    let mut found = before;
+    let mut count = before;
     let mut column: usize = 0;
     while column < COLUMNS {
-        found = find_cell(first, second, line, column, found, cells);
+        count = list_if_differing(first, second, COLUMNS * line + column, count, cells);
         column += 1;
     }
-    found
+    count
 }
 
-// What one cell adds: nothing where none of its pixels differs, else itself and how far its differing pixels reach.
-fn find_cell(
+// A cell's pixels are compared up to the first that differs.
+fn list_if_differing(
     first: &[u8],
     second: &[u8],
-    line: usize,
-    column: usize,
-    before: Cells,
+    cell: usize,
+    before: usize,
     cells: &mut [u16],
-) -> Cells
+) -> usize
     requires { ⌜ AreFrames (now first) (now second) ⌝ }
-    requires { ⌜ line < lines ⌝ }
-    requires { ⌜ column < columns ⌝ }
-    requires { ⌜ before .count ≤ columns * line + column ⌝ }
+    requires { ⌜ cell < columns * lines ⌝ }
+    requires { ⌜ before ≤ cell ⌝ }
     requires { ⌜ length (now cells) ≡ listLength ⌝ }
-    ensures { λ r. ⌜ r ≡ cellsWith before (cellPlaces (now (first .entry)) (now (second .entry)) (columns * line + column)) (cellListed (now (first .entry)) (now (second .entry)) (columns * line + column)) ⌝ }
-    ensures { λ r. ⌜ now (cells .exit) ≡ sets (now (cells .entry)) (before .count) (cellListed (now (first .entry)) (now (second .entry)) (columns * line + column)) ⌝ }
+    ensures { λ r. ⌜ r ≡ before + length (cellListed (now (first .entry)) (now (second .entry)) cell) ⌝ }
+    ensures { λ r. ⌜ now (cells .exit) ≡ sets (now (cells .entry)) before (cellListed (now (first .entry)) (now (second .entry)) cell) ⌝ }
 {
-    let cell = COLUMNS * line + column;
-    let from = CELL_LENGTH * cell;
-    let least = first_difference(first, second, from);
-    if least == CELL_LENGTH {
-        return before;
+    if cell_differs(first, second, CELL_LENGTH * cell) {
+        list_cell(cells, before, cell as u16);
+        return before + 1;
     }
-    let greatest = last_difference(first, second, from, least);
-    list_cell(cells, before.count, cell as u16);
-    let x = CELL_LENGTH * column;
-    Cells {
-        left: lower(before.left, x + least),
-        right: higher(before.right, x + greatest),
-        count: before.count + 1,
-    }
+    before
 }
 
 // A full list stays as it is.

@@ -20,19 +20,15 @@ pub struct Comparison {
     pub cells: u32,
 }
 
-// The least and the greatest x of the differing cells so far, and how many they are. Before the first they are 240 and 0.
-pub(crate) struct Cells {
+// What the lines so far come to: the sides of the rectangle, and how many pixels and cells differ. Before the first difference the
+// left side is 240 and the top 224, right and bottom are 0.
+pub(crate) struct Found {
     pub left: usize,
     pub right: usize,
-    pub count: usize,
-}
-
-// The same with the lines, of which the least is 224 before the first, and how many pixels differ so far.
-pub(crate) struct Found {
-    pub cells: Cells,
     pub top: usize,
     pub bottom: usize,
     pub pixels: usize,
+    pub cells: usize,
 }
 
 pub(crate) fn refused(status: u8) -> Comparison
@@ -55,14 +51,12 @@ impl Found {
         ensures { λ r. ⌜ r ≡ nothing ⌝ }
     {
         Found {
-            cells: Cells {
-                left: LINE_LENGTH,
-                right: 0,
-                count: 0,
-            },
+            left: LINE_LENGTH,
+            right: 0,
             top: LINES,
             bottom: 0,
             pixels: 0,
+            cells: 0,
         }
     }
 
@@ -70,17 +64,16 @@ impl Found {
         requires { ⌜ Small self ⌝ }
         ensures { λ r. ⌜ r ≡ reported self ⌝ }
     {
-        let cells = self.cells;
         let empty = self.pixels == 0;
         Comparison {
             status: DONE,
             empty,
-            first_x: side(empty, cells.left) as u8,
-            last_x: cells.right as u8,
+            first_x: side(empty, self.left) as u8,
+            last_x: self.right as u8,
             first_line: side(empty, self.top) as u8,
             last_line: self.bottom as u8,
             pixels: self.pixels as u32,
-            cells: cells.count as u32,
+            cells: self.cells as u32,
         }
     }
 }

@@ -8,13 +8,15 @@ ghost use Rattle.compare.specs.Answer.{listLength, compareRefusal, compa
 ghost use Rattle.compare.specs.Internal.{AreFrames, linePlaces, lineListed, foundWith, foundIn, countsIn, listedIn};
 use crate::LISTED_CELLS;
 use crate::cells::clear;
-use crate::cells::find_cells;
+use crate::cells::list_cells;
 use crate::comparison::Comparison;
 use crate::comparison::Found;
 use crate::comparison::higher;
 use crate::comparison::lower;
 use crate::comparison::refused;
 use crate::pixels::differing_pixels;
+use crate::pixels::first_x;
+use crate::pixels::last_x;
 use machine::DONE;
 use machine::FRAME_LENGTH;
 use machine::LINE_LENGTH;
@@ -81,21 +83,22 @@ fn find_line(
     requires { ⌜ AreFrames (now first) (now second) ⌝ }
     requires { ⌜ line < lines ⌝ }
     requires { ⌜ pixels ≡ length (linePlaces (now first) (now second) line) ⌝ }
-    requires { ⌜ before .cells .count ≤ columns * line ⌝ }
+    requires { ⌜ before .left ≤ lineLength ⌝ }
     requires { ⌜ before .pixels ≤ lineLength * line ⌝ }
+    requires { ⌜ before .cells ≤ columns * line ⌝ }
     requires { ⌜ length (now cells) ≡ listLength ⌝ }
     ensures { λ r. ⌜ r ≡ foundWith before (linePlaces (now (first .entry)) (now (second .entry)) line) (lineListed (now (first .entry)) (now (second .entry)) line) ⌝ }
-    ensures { λ r. ⌜ now (cells .exit) ≡ sets (now (cells .entry)) (before .cells .count) (lineListed (now (first .entry)) (now (second .entry)) line) ⌝ }
+    ensures { λ r. ⌜ now (cells .exit) ≡ sets (now (cells .entry)) (before .cells) (lineListed (now (first .entry)) (now (second .entry)) line) ⌝ }
 {
     if pixels == 0 {
         return before;
     }
-    let earlier = before.cells;
-    let cells_found = find_cells(first, second, line, earlier, cells);
     Found {
-        cells: cells_found,
+        left: first_x(first, second, line, before.left),
+        right: last_x(first, second, line, before.right),
         top: lower(before.top, line),
         bottom: higher(before.bottom, line),
         pixels: before.pixels + pixels as usize,
+        cells: list_cells(first, second, line, before.cells, cells),
     }
 }

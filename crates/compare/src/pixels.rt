@@ -1,12 +1,13 @@
-// The pixels of two frames, compared at their places: those of a line counted, in a cell the first and the last that differ.
+// The pixels of two frames, compared at their places: how many of a line differ, how far they reach, and whether one of a cell does.
 ghost use mathlib.Core.Path.{_≡_};
-ghost use mathlib.Core.Bool.{true};
-ghost use Prim.Native.Nat.{_+_, _≤_, _<_};
+ghost use mathlib.Core.List.{map, foldl};
+ghost use Prim.Native.Nat.{_+_, _≤_, _<_, min, max};
+ghost use lib.Dec.{ltb};
 ghost use lib.ListN.{length};
-ghost use Rattle.machine.specs.Sizes.{cellLength, lineLength, frameLength};
-ghost use Rattle.compare.specs.Internal.{AreFrames, FirstDifference, LastDifference};
+ghost use Rattle.machine.specs.Sizes.{cellLength, lines, lineLength, frameLength};
+ghost use Rattle.compare.specs.Internal.{AreFrames, linePlaces};
 ghost use Rattle.compare.specs.Numbers.{passingFrom};
-ghost use Rattle.compare.specs.Places.{differs};
+ghost use Rattle.compare.specs.Places.{xOf, differs};
 use machine::CELL_LENGTH;
 use machine::LINE_LENGTH;
 
@@ -25,36 +26,53 @@ pub(crate) fn differing_pixels(first: &[u8], second: &[u8], from: usize) -> u8
     count
 }
 
-// Which of the six pixels from a place on is the first that differs, 6 where none does.
-pub(crate) fn first_difference(first: &[u8], second: &[u8], from: usize) -> usize
+// Whether one of the six pixels from a place on differs.
+pub(crate) fn cell_differs(first: &[u8], second: &[u8], from: usize) -> bool
     requires { ⌜ AreFrames (now first) (now second) ⌝ }
     requires { ⌜ from + cellLength ≤ frameLength ⌝ }
-    ensures { λ r. ⌜ FirstDifference (now (first .entry)) (now (second .entry)) from r ⌝ }
+    ensures { λ r. ⌜ r ≡ ltb 0 (length (passingFrom (differs (now (first .entry)) (now (second .entry))) from cellLength)) ⌝ }
 {
     let mut k: usize = 0;
     while k < CELL_LENGTH {
         if first[from + k] != second[from + k] {
-            return k;
+            return true;
         }
         k += 1;
     }
-    CELL_LENGTH
+    false
 }
 
-// Which of them is the last that differs, where the pixel at `least` does.
-pub(crate) fn last_difference(first: &[u8], second: &[u8], from: usize, least: usize) -> usize
+// The first x of a line that differs, if it lies before `left`, else `left`: only such an x makes a rectangle wider.
+pub(crate) fn first_x(first: &[u8], second: &[u8], line: usize, left: usize) -> usize
     requires { ⌜ AreFrames (now first) (now second) ⌝ }
-    requires { ⌜ from + cellLength ≤ frameLength ⌝ }
-    requires { ⌜ least < cellLength ⌝ }
-    requires { ⌜ differs (now first) (now second) (from + least) ≡ true ⌝ }
-    ensures { λ r. ⌜ LastDifference (now (first .entry)) (now (second .entry)) from r ⌝ }
+    requires { ⌜ line < lines ⌝ }
+    requires { ⌜ left ≤ lineLength ⌝ }
+    ensures { λ r. ⌜ r ≡ foldl min left (map xOf (linePlaces (now (first .entry)) (now (second .entry)) line)) ⌝ }
 {
-    let mut k: usize = CELL_LENGTH - 1;
-    while k > least {
-        if first[from + k] != second[from + k] {
-            return k;
+    let from = LINE_LENGTH * line;
+    let mut x: usize = 0;
+    while x < left {
+        if first[from + x] != second[from + x] {
+            return x;
         }
-        k -= 1;
+        x += 1;
     }
-    least
+    left
+}
+
+// The last x of a line that differs, if it lies behind `right`, else `right`.
+pub(crate) fn last_x(first: &[u8], second: &[u8], line: usize, right: usize) -> usize
+    requires { ⌜ AreFrames (now first) (now second) ⌝ }
+    requires { ⌜ line < lines ⌝ }
+    ensures { λ r. ⌜ r ≡ foldl max right (map xOf (linePlaces (now (first .entry)) (now (second .entry)) line)) ⌝ }
+{
+    let from = LINE_LENGTH * line;
+    let mut x: usize = LINE_LENGTH - 1;
+    while x > right {
+        if first[from + x] != second[from + x] {
+            return x;
+        }
+        x -= 1;
+    }
+    right
 }

@@ -34,7 +34,7 @@ find-line-requires c κs =
     let here = c .before .before .before .loop in
     let start = c .before .before .before .before .before .before .before .before .before in
     let known = few _ _ _ _ _ _ (here .inv) in
-    (start .pre .0, (omega arith, (c .before .differing-pixels .ensures, (known .0, (known .1, size _ _ _ _ _ _ (here .inv))))))
+    (start .pre .0, (omega arith, (c .before .differing-pixels .ensures, (known .0, (known .1, (known .2, size _ _ _ _ _ _ (here .inv)))))))
 
 loop-again : tie.Need-loop-again Inv-loop μ-loop
 loop-again c =

@@ -21,19 +21,23 @@ returns c =
     let places = linePlaces (now (a .first)) (now (a .second)) (a .line) in
     let none : places ≡ [] = no-length places (sym (start .pre .1 .1 .0) ∙ c .if1 .taken) in
     let unlisted = none-listed (now (a .first)) (now (a .second)) (a .line) none in
-    (sym (ap₂ (foundWith (a .before)) none unlisted ∙ found-none (a .before)), sym (ap (sets (now (a .cells)) (a .before .cells .count)) unlisted))
+    (sym (ap₂ (foundWith (a .before)) none unlisted ∙ found-none (a .before)), sym (ap (sets (now (a .cells)) (a .before .cells)) unlisted))
 
 returns-2 : tie.Need-returns-2
 returns-2 c =
-    let cells = c .before .before .before .before .before in
-    let e = cells .before .before .before in
+    let list = c .before .before in
+    let higher = list .before .before .before in
+    let lower = higher .before in
+    let last = lower .before in
+    let first = last .before in
+    let e = first .before in
     let start = e .before .before .before .before in
     let a = start .args in
     let counted = start .pre .1 .1 .0 in
     let some : 0 < length (linePlaces (now (a .first)) (now (a .second)) (a .line)) = omega (arith, counted, e .if1 .left) in (
-      rw (cells .find-cells .ensures .0, c .before .before .lower .ensures, c .before .higher .ensures, counted)
+      rw (first .first-x .ensures, last .last-x .ensures, lower .lower .ensures, higher .higher .ensures, counted, list .list-cells .ensures .0)
           (line-adds (now (a .first)) (now (a .second)) (a .line) some (a .before)),
-      cells .find-cells .ensures .1,
+      list .list-cells .ensures .1,
     )
 
 pub find-line-spec : {M : Type 1} → statement M
@@ -42,8 +46,10 @@ find-line-spec =
     (tie.spec
     returns
     (λ c κs. search needs)
+    (λ c κs. search needs)
     (λ c κs. tt)
     (λ c κs. tt)
     (λ c. search needs)
+    (λ c κs. search needs)
     (λ c. search needs)
     returns-2)

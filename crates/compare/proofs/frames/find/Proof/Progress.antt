@@ -1,7 +1,7 @@
 -- What the loop over the lines has done when it comes to one, how one line more adds to it, and what it comes to at the end.
 -- Assumes nothing.
 use Prim.Native.Nat.{ℕ, _+_, _*_, _≤_, _<_}
-use mathlib.Core.List.{List, [], _∷_, _++_}
+use mathlib.Core.List.{List, [], _∷_, _++_, map}
 use mathlib.Core.Path.{_≡_, refl, sym, ap, ap₂, _∙_}
 use native.Mathlib.Numerals.{add-one}
 use native.Mathlib.Omega.{arith}
@@ -11,12 +11,13 @@ use Rattle.machine.specs.Lists.{gather}
 use Rattle.machine.specs.Sizes.{columns, lines, lineLength}
 use Rattle.machine.proofs.Lists.{gather-next}
 use Rattle.compare.specs.Answer.{listLength, listed}
-use Rattle.compare.specs.Internal.{linePlaces, hasPlace, lineListed, cellsWith, foundWith, nothing, foundIn, countsIn, listedIn}
+use Rattle.compare.specs.Internal.{linePlaces, hasPlace, lineListed, foundWith, nothing, foundIn, countsIn, listedIn}
 use Rattle.compare.specs.Numbers.{passingFrom}
-use Rattle.compare.specs.Places.{differs}
+use Rattle.compare.specs.Places.{xOf, differs}
 use Rattle.compare.proofs.Added.{found-none, found-more}
 use Rattle.compare.proofs.Listed.{listed-length, listed-more}
 use Rattle.compare.proofs.Numbers.{from-none, start-piece, from-most}
+use Rattle.compare.proofs.Picks.{rising, fold-first}
 use Rattle.compare.specs.declared.comparison.Found.{Found}
 
 module _ (first second : List ℕ) where
@@ -45,15 +46,16 @@ module _ (first second : List ℕ) where
   }
 
   module _ (counts cells : List ℕ) (found : Found) (line : ℕ) (here : Reached counts cells found line) where
-    listed-count : found .cells .count ≡ length (cellsOf line)
-    unfolding foundIn foundWith cellsWith
-    listed-count = ap (λ (f : Found). f .cells .count) (here .counted) ∙ omega arith
+    listed-count : found .cells ≡ length (cellsOf line)
+    unfolding foundIn foundWith
+    listed-count = ap (λ (f : Found). f .cells) (here .counted) ∙ omega arith
 
-    pub few : (found .cells .count ≤ columns * line) × (found .pixels ≤ lineLength * line)
-    unfolding foundIn foundWith cellsWith
+    pub few : (found .left ≤ lineLength) × (found .pixels ≤ lineLength * line) × (found .cells ≤ columns * line)
+    unfolding foundIn foundWith
     few = (
-      omega (arith, listed-count, from-most (hasPlace first second) 0 (columns * line)),
+      rw (here .counted) (fold-first rising lineLength (map xOf (places line))),
       rw (here .counted) (omega (arith, from-most (differs first second) 0 (lineLength * line))),
+      omega (arith, listed-count, from-most (hasPlace first second) 0 (columns * line)),
     )
 
     pub size : length cells ≡ listLength
@@ -63,7 +65,7 @@ module _ (first second : List ℕ) where
     pub next : line < lines → (pixels : ℕ) (answer : Found) (left : List ℕ)
         → pixels ≡ length (linePlaces first second line)
         → answer ≡ foundWith found (linePlaces first second line) (lineListed first second line)
-        → left ≡ sets cells (found .cells .count) (lineListed first second line)
+        → left ≡ sets cells (found .cells) (lineListed first second line)
         → Reached (set counts line pixels) left answer (line + 1)
     unfolding foundIn countsIn listedIn
     next more pixels answer left p a l =

@@ -1,16 +1,22 @@
--- `compare::pixels::first_difference` meets its contract. The loop's invariant: no pixel that was passed differs.
+-- `compare::pixels::cell_differs` meets its contract. The loop's invariant: no pixel that was passed differs.
 -- Assumes nothing.
 use Prim.Native.Nat.{ℕ, _≤_, _<_, _-_, _+_}
 use mathlib.Core.Bool.{false}
-use mathlib.Core.Path.{_≡_}
+use mathlib.Core.List.{List}
+use mathlib.Core.Path.{_≡_, sym, ap}
 use native.Mathlib.Omega.{arith}
+use lib.Dec.{ltb}
+use lib.ListN.{length}
 use denote.Ref.{now}
 use borrow.Author.Count.{below-more}
+use borrow.Author.Tests.{lt-ltb}
 use Rattle.machine.specs.Sizes.{cellLength}
+use Rattle.compare.specs.Numbers.{passingFrom}
 use Rattle.compare.specs.Places.{differs}
+use Rattle.compare.proofs.Numbers.{some, from-member, from-nothing}
 use Rattle.compare.proofs.Places.{unequal, equal}
-use Rattle.compare.proofs.pixels.first_difference.Statement.{statement}
-use Rattle.compare.proofs.pixels.first_difference.Tie as tie
+use Rattle.compare.proofs.pixels.cell_differs.Statement.{statement}
+use Rattle.compare.proofs.pixels.cell_differs.Tie as tie
 
 abbrev Inv-loop : tie.InvT-loop
 Inv-loop first second from k₀ k = (k ≤ cellLength) × ((i : ℕ) → i < k → differs first second (from + i) ≡ false)
@@ -24,12 +30,11 @@ loop-holds c = (omega arith, λ i h. absurd (omega arith))
 returns : tie.Need-returns Inv-loop μ-loop
 returns c =
     let a = c .before .before .before .before .before .args in
-    let here = c .before .before .before .before .loop in
-    record {
-      within = omega arith;
-      before = here .inv .1;
-      here = λ h. unequal (now (a .first)) (now (a .second)) (a .from + here .k) (c .if1 .taken);
-    }
+    let k = c .before .before .before .before .loop .k in
+    let test = differs (now (a .first)) (now (a .second)) in
+    let places = passingFrom test (a .from) cellLength in
+    let here = unequal (now (a .first)) (now (a .second)) (a .from + k) (c .if1 .taken) in
+    sym (lt-ltb 0 (length places) (some places (from-member test (a .from) cellLength k (omega arith) here)))
 
 loop-again : tie.Need-loop-again Inv-loop μ-loop
 loop-again c =
@@ -39,11 +44,14 @@ loop-again c =
 
 returns-2 : tie.Need-returns-2 Inv-loop μ-loop
 returns-2 c =
+    let a = c .before .before .args in
     let here = c .before .loop in
-    record { within = omega arith; before = λ i h. here .inv .1 i (omega arith); here = λ h. absurd (omega arith) }
+    sym
+    (ap (λ (l : List ℕ). ltb 0 (length l))
+    (from-nothing (differs (now (a .first)) (now (a .second))) (a .from) cellLength (λ i h. here .inv .1 i (omega arith))))
 
-pub first-difference-spec : {M : Type 1} → statement M
-first-difference-spec =
+pub cell-differs-spec : {M : Type 1} → statement M
+cell-differs-spec =
     tie.close
     (tie.spec
     Inv-loop
