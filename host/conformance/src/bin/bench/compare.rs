@@ -6,6 +6,7 @@ use std::time::Duration;
 use tropfenpfad_conformance::calls;
 use tropfenpfad_conformance::comparisons::{Lists, HELD};
 use tropfenpfad_conformance::images::Kind;
+use tropfenpfad_conformance::random::Xorshift;
 use tropfenpfad_sys::FRAME_LENGTH;
 
 use crate::contest::{subjects, Subject, IMAGES};
@@ -15,15 +16,19 @@ use crate::table::Table;
 /// Pixels of the nearly equal frames that differ.
 const FEW: usize = 10;
 
+/// Where differences are spread thinly, one pixel in so many differs.
+const THIN: usize = 100;
+
 pub fn print() {
     println!();
     println!("## Comparisons");
     println!();
     println!(
         "{IMAGES} painted frames of text images, each against a copy: unchanged, with {FEW} pixels \
-         changed that are spread over it, with all changed. Plain is a comparison line by line and \
-         cell by cell in one pass, as a programmer would write it first; fast passes over equal \
-         lines whole. Microseconds a comparison, each pair at its best."
+         changed that are spread over it, with one in {THIN} at random, with all changed. Plain is \
+         a comparison line by line and cell by cell in one pass, as a programmer would write it \
+         first; fast passes over equal lines whole. Microseconds a comparison, each pair at its \
+         best."
     );
     let frames: Vec<Vec<u8>> = subjects(Kind::Text).iter().map(painted).collect();
     let [library, plain, fast] = HELD.map(|(name, _)| name);
@@ -38,6 +43,7 @@ pub fn print() {
     let table = Table::begin(12, &heads);
     line(&table, "no pixel", &frames, |_, _| ());
     line(&table, &format!("{FEW} pixels"), &frames, change_few);
+    line(&table, &format!("1 in {THIN}"), &frames, change_thinly);
     line(&table, "all pixels", &frames, |_, frame| {
         frame.iter_mut().for_each(change);
     });
@@ -59,6 +65,16 @@ fn change_few(index: usize, frame: &mut [u8]) {
     let part = FRAME_LENGTH / FEW;
     for (number, pixels) in frame.chunks_exact_mut(part).enumerate() {
         change(&mut pixels[(index * 1009 + number * 2003) % part]);
+    }
+}
+
+/// Changes pixels at random, in every frame others.
+fn change_thinly(index: usize, frame: &mut [u8]) {
+    let mut generator = Xorshift::new(index as u64);
+    for pixel in frame {
+        if generator.below(THIN) == 0 {
+            change(pixel);
+        }
     }
 }
 
