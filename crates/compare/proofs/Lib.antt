@@ -6,3 +6,8 @@ pub mod Listed
 pub mod Whole
 pub mod Accepted
 pub mod Laws
+pub mod Slips
+pub mod Signed
+pub mod Outside
+pub mod Best
+pub mod SlipLaws

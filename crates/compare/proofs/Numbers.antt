@@ -151,6 +151,32 @@ module _ (test : ℕ → Bool) where
       let e : suc n ≡ n + 1 = omega arith in
       rw (e, from-count from n) (omega (arith, from-most from n, one-most (test (from + n))))
 
+  pub from-all : (from n : ℕ) → ((k : ℕ) → k < n → test (from + k) ≡ true) → length (passingFrom test from n) ≡ n
+  from-all from zero p = ap length (from-none from)
+  from-all from (suc n) p =
+      let e : suc n ≡ n + 1 = omega arith in
+      rw (e, from-count from n, p n (omega arith)) (omega (arith, from-all from n (λ k h. p k (omega arith))))
+
+  -- of a row of two parts one passes whole, and of the other none
+  module _ (m n : ℕ) where
+    plain : (k : ℕ) → 0 + k ≡ k
+    plain k = omega arith
+
+    parts-length : length (passingFrom test 0 (m + n)) ≡ length (passingFrom test 0 m) + length (passingFrom test (0 + m) n)
+    parts-length = ap length (from-parts 0 m n) ∙ length-append (passingFrom test 0 m) (passingFrom test (0 + m) n)
+
+    pub from-first : ((k : ℕ) → k < m → test k ≡ true) → ((k : ℕ) → k < n → test (m + k) ≡ false) → length (passingFrom test 0 (m + n)) ≡ m
+    from-first passes fails =
+        let first = from-all 0 m (λ k h. rw (plain k) (passes k h)) in
+        let rest = from-nothing (0 + m) n (λ k h. rw (plain m) (fails k h)) in
+        omega (arith, parts-length, first, ap length rest)
+
+    pub from-last : ((k : ℕ) → k < m → test k ≡ false) → ((k : ℕ) → k < n → test (m + k) ≡ true) → length (passingFrom test 0 (m + n)) ≡ n
+    from-last fails passes =
+        let first = from-nothing 0 m (λ k h. rw (plain k) (fails k h)) in
+        let rest = from-all (0 + m) n (λ k h. rw (plain m) (passes k h)) in
+        omega (arith, parts-length, ap length first, rest)
+
 -- two tests that say the same of each of the row
 pub from-same : (test other : ℕ → Bool) (from n : ℕ) → ((k : ℕ) → k < n → test (from + k) ≡ other (from + k))
     → passingFrom test from n ≡ passingFrom other from n
