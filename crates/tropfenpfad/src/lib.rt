@@ -6,11 +6,13 @@ ghost use Rattle.bus.specs.Cycle.{readAnswer, writeAnswer, writeContents, write
 ghost use Rattle.bus.specs.Latch.{freshLatches};
 ghost use Rattle.bus.specs.Place.{decodeAnswer};
 ghost use Rattle.compare.specs.Answer.{compareAnswer, countsLeft, cellsLeft};
+ghost use Rattle.compare.specs.Slip.{IsSlipAnswer};
 use bus::Access;
 use bus::Decoded;
 use bus::Latches;
 use bus::Written;
 use compare::Comparison;
+use compare::Slip;
 use video::Address;
 use video::Painted;
 use video::State;
@@ -122,4 +124,11 @@ pub extern "C" fn tropfenpfad_compare(
     ensures { λ r. ⌜ now (cells .exit) ≡ cellsLeft (now (first .entry)) (now (second .entry)) (now («line_counts» .entry)) (now (cells .entry)) ⌝ }
 {
     compare::compare(first, second, line_counts, cells)
+}
+
+#[no_mangle]
+pub extern "C" fn tropfenpfad_find_slip(reference: &[u8], grabbed: &[u8]) -> Slip
+    ensures { λ r. ⌜ IsSlipAnswer (now (reference .entry)) (now (grabbed .entry)) r ⌝ }
+{
+    compare::find_slip(reference, grabbed)
 }
