@@ -4,12 +4,13 @@
  * Two halves. The video half says where a screen byte stands and paints lines
  * and frames from a RAM image. The bus half says what answers at an address
  * and reads and writes over it. Both serve the 48K machine and the 16K machine,
- * by a profile that the caller hands over. Beside the halves stands the
- * comparison, which says where two frames differ, such as one that was grabbed
- * from a screen and the one that should be there. The archive is
- * libtropfenpfad.a (x86-64 Linux); it needs the C library's memcpy and nothing
- * else. `make lib` puts it into target/lib and this header into target/include.
- * The example is compiled so:
+ * by a profile that the caller hands over. Beside the halves stand two calls
+ * for pictures that were grabbed from a screen, which hold them against those
+ * that should be there: the comparison says where two frames differ, and the
+ * search for a slip says by how many pixels a line stands beside its place.
+ * The archive is libtropfenpfad.a (x86-64 Linux); it needs the C library's
+ * memcpy and nothing else. `make lib` puts it into target/lib and this header
+ * into target/include. The example is compiled so:
  *
  *   cc -std=c11 -Itarget/include host/tropfenpfad/examples/paint.c -Ltarget/lib -ltropfenpfad -o target/paint
  *
@@ -31,7 +32,8 @@
  *     line_counts and cells of compare.
  *   - What is lent in one call does not overlap: not memory and output, not
  *     memory and latch record, not a list and a frame, not the two lists. Only
- *     the two frames of compare may overlap or be the same: they are only read.
+ *     the two frames of compare and the two lines of find_slip may overlap or
+ *     be the same: they are only read.
  *
  * Nothing else is owed. Every value of every number is answered or refused,
  * a byte may hold anything, no buffer of bytes needs an alignment, and none
@@ -105,7 +107,7 @@ extern "C" {
  */
 #define TROPFENPFAD_DONE                0 /* the call was answered */
 #define TROPFENPFAD_REFUSED_MEMORY      1 /* memory_length is not the profile's: 65,536 or 16,384 */
-#define TROPFENPFAD_REFUSED_OUTPUT      2 /* output, frame or list has not its right length */
+#define TROPFENPFAD_REFUSED_OUTPUT      2 /* output, line, frame or list has not its right length */
 #define TROPFENPFAD_REFUSED_MODE        3 /* mode is above 7 */
 #define TROPFENPFAD_REFUSED_COUNTER     4 /* counter is above 31 */
 #define TROPFENPFAD_REFUSED_LINE        5 /* line is above 223 */
@@ -386,6 +388,43 @@ tropfenpfad_comparison tropfenpfad_compare(const uint8_t *first, size_t first_le
                                            const uint8_t *second, size_t second_length,
                                            uint16_t *line_counts, size_t line_counts_length,
                                            uint16_t *cells, size_t cells_length);
+
+/* ------------------------------------------------------------------------- */
+/* Slip                                                                      */
+/* ------------------------------------------------------------------------- */
+
+/* The farthest slip to either side: slips are -12 to 12. */
+#define TROPFENPFAD_FARTHEST_SLIP 12
+
+/* The answer of find_slip. */
+typedef struct {
+  uint8_t status;         /* TROPFENPFAD_DONE or a refusal */
+  int8_t slip;            /* pixels to the right, -12 to 12: below 0 to the left; 0 on a refusal */
+  uint16_t disagreements; /* at this slip, of the reference's 240 pixels; 0 on a refusal */
+} tropfenpfad_slip;
+
+/*
+ * Says by how many pixels a grabbed line stands beside its place.
+ *
+ * At slip s the partner of the reference's pixel x is pixel x + s of the
+ * grabbed line. The two agree if they are the same byte. Where x + s is below 0
+ * or above 239 there is no partner, and the pixel disagrees; so there are at
+ * least n disagreements at slip n, and at -n as well. A pixel of the grabbed
+ * line that is nobody's partner does not count. A pixel may be any byte, and
+ * all eight of its bits count.
+ *
+ *   reference, reference_length   240 bytes, the line as it should be; only read
+ *   grabbed, grabbed_length       240 bytes, the line as it came in; only read
+ *
+ * Returns the slip from -12 to 12 with the fewest disagreements, and their
+ * number. Among slips with equally few it is the one nearest to 0, and -n if
+ * that could be -n or n. A grabber that starts three pixels early gives 3, one
+ * that starts three pixels late gives -3, and lines that agree in no pixel at
+ * any slip give slip 0 and 240 disagreements.
+ * Refuses: 2 output, for either line.
+ */
+tropfenpfad_slip tropfenpfad_find_slip(const uint8_t *reference, size_t reference_length,
+                                       const uint8_t *grabbed, size_t grabbed_length);
 
 #ifdef __cplusplus
 }

@@ -3,8 +3,10 @@
 
 mod bus;
 mod compare;
+mod slip;
 mod video;
 
 pub use bus::{decode, fresh_latches, read, write, write_in_place};
 pub use compare::compare;
+pub use slip::find_slip;
 pub use video::{fresh_state, paint_frame, paint_line, screen_address};

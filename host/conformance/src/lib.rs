@@ -16,3 +16,4 @@ pub mod inputs;
 pub mod model;
 pub mod random;
 pub mod refusals;
+pub mod slips;

@@ -3,9 +3,9 @@
 //! [`Video`] paints by tables: what a screen byte does is looked up, the four registers are one
 //! word, six pixels are six lanes of another. [`planes`] paints by bit planes. [`Bus`] decodes by a
 //! map of pages. [`compare`] derives its report from the set of places at which two frames differ.
-//! Each entry point holds its refusals as a list, of which the first that applies is given. The
-//! answers are the C interface's records, so that whole answers can be compared, refused ones
-//! included.
+//! [`slip`] ranks all slips by the agreements of what the two lines have in common at each. Each
+//! entry point holds its refusals as a list, of which the first that applies is given. The answers
+//! are the C interface's records, so that whole answers can be compared, refused ones included.
 //!
 //! The two profiles differ in each by one thing. [`Video`] sees only the block of 16K that video
 //! reads, which is a part of the RAM or all of it; [`planes`] folds every address that it reads at;
@@ -15,6 +15,7 @@ mod bus;
 pub mod compare;
 pub mod planes;
 mod refusal;
+pub mod slip;
 mod video;
 
 pub use bus::Bus;

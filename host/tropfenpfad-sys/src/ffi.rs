@@ -42,7 +42,7 @@ pub const FRAME_LENGTH: usize = 53_760;
 pub const DONE: u8 = 0;
 /// The memory image has not the profile's length.
 pub const REFUSED_MEMORY: u8 = 1;
-/// The lent output, a frame or a list has another length.
+/// The lent output, a line, a frame or a list has another length.
 pub const REFUSED_OUTPUT: u8 = 2;
 /// The mode is too great.
 pub const REFUSED_MODE: u8 = 3;
@@ -282,4 +282,33 @@ extern "C" {
         cells: *mut u16,
         cells_length: usize,
     ) -> Comparison;
+}
+
+// ----------------------------------------------------------------------------
+// Slip
+// ----------------------------------------------------------------------------
+
+/// The farthest slip to either side: slips are -12 to 12.
+pub const FARTHEST_SLIP: i8 = 12;
+
+/// The answer of the search for a slip.
+#[repr(C)]
+#[derive(Clone, Copy, Debug, PartialEq, Eq)]
+pub struct Slip {
+    /// 0, or the refusal's number.
+    pub status: u8,
+    /// Pixels to the right; below 0 to the left.
+    pub slip: i8,
+    /// Pixels of the reference that disagree at this slip.
+    pub disagreements: u16,
+}
+
+#[allow(missing_docs)]
+extern "C" {
+    pub fn tropfenpfad_find_slip(
+        reference: *const u8,
+        reference_length: usize,
+        grabbed: *const u8,
+        grabbed_length: usize,
+    ) -> Slip;
 }

@@ -96,6 +96,25 @@ static void comparison(void) {
   compared(sizeof frame, TROPFENPFAD_LISTED_CELLS - 1);
 }
 
+/* Memory from one place on against memory from another on, so that the slip is
+ * the distance of the two. */
+static void slip_found(size_t reference_place, size_t grabbed_place, size_t grabbed_length) {
+  tropfenpfad_slip answer =
+      tropfenpfad_find_slip(memory + reference_place, TROPFENPFAD_LINE_LENGTH,
+                            memory + grabbed_place, grabbed_length);
+  printf("find_slip %u %d %u\n", (unsigned)answer.status, (int)answer.slip,
+         (unsigned)answer.disagreements);
+}
+
+static void slip(void) {
+  size_t farthest = TROPFENPFAD_FARTHEST_SLIP;
+  slip_found(0, 0, TROPFENPFAD_LINE_LENGTH);
+  slip_found(5, 0, TROPFENPFAD_LINE_LENGTH);
+  slip_found(0, farthest, TROPFENPFAD_LINE_LENGTH);
+  slip_found(0, farthest + 1, TROPFENPFAD_LINE_LENGTH);
+  slip_found(0, 5, TROPFENPFAD_LINE_LENGTH + 1);
+}
+
 int main(void) {
   for (size_t i = 0; i < sizeof memory; i++) memory[i] = (uint8_t)(i * 7 + i / 251);
   tropfenpfad_state fresh = tropfenpfad_fresh_state();
@@ -109,5 +128,6 @@ int main(void) {
   bus(TROPFENPFAD_IMAGE_LENGTH_16K, TROPFENPFAD_PROFILE_16K, TROPFENPFAD_KIND_NONE);
   bus(TROPFENPFAD_IMAGE_LENGTH_16K, TROPFENPFAD_PROFILE_16K, TROPFENPFAD_KIND_JASMIN);
   comparison();
+  slip();
   return 0;
 }

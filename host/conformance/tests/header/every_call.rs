@@ -5,6 +5,7 @@ use std::process::Command;
 use tropfenpfad_conformance::calls;
 use tropfenpfad_conformance::comparisons::Lists;
 use tropfenpfad_conformance::inputs::fresh_of_kind;
+use tropfenpfad_conformance::slips::FARTHEST;
 use tropfenpfad_sys::{
     Access, Latches, Painted, State, FRAME_LENGTH, IMAGE_LENGTH, IMAGE_LENGTH_16K, KIND_JASMIN,
     KIND_NONE, LINE_LENGTH, LISTED_CELLS, PROFILE_16K, PROFILE_48K,
@@ -29,6 +30,7 @@ fn a_call_from_c_that_answers_otherwise() {
         bus(&mut memory[..block], PROFILE_16K, KIND_NONE),
         bus(&mut memory[..block], PROFILE_16K, KIND_JASMIN),
         comparison(&frame),
+        slip(&memory),
     ]
     .concat();
     assert_eq!(String::from_utf8_lossy(&printed), expected);
@@ -160,4 +162,21 @@ fn comparison(frame: &[u8]) -> String {
     }
     text += &compare(&mut lists, frame, &grabbed, LISTED_CELLS);
     text + &compare(&mut lists, frame, &grabbed, LISTED_CELLS - 1)
+}
+
+fn find_slip(memory: &[u8], reference: usize, grabbed: usize, length: usize) -> String {
+    let reference = &memory[reference..reference + LINE_LENGTH];
+    let answer = calls::find_slip(reference, &memory[grabbed..grabbed + length]);
+    format!(
+        "find_slip {} {} {}\n",
+        answer.status, answer.slip, answer.disagreements
+    )
+}
+
+fn slip(memory: &[u8]) -> String {
+    let mut text = find_slip(memory, 0, 0, LINE_LENGTH);
+    text += &find_slip(memory, 5, 0, LINE_LENGTH);
+    text += &find_slip(memory, 0, FARTHEST, LINE_LENGTH);
+    text += &find_slip(memory, 0, FARTHEST + 1, LINE_LENGTH);
+    text + &find_slip(memory, 0, 5, LINE_LENGTH + 1)
 }

@@ -5,7 +5,10 @@ use std::fs;
 use std::mem::{offset_of, size_of};
 
 use tropfenpfad::{Refusal, Target};
-use tropfenpfad_sys::{Access, Address, Comparison, Decoded, Latches, Painted, State, Written};
+use tropfenpfad_conformance::slips::FARTHEST;
+use tropfenpfad_sys::{
+    Access, Address, Comparison, Decoded, Latches, Painted, Slip, State, Written,
+};
 
 use crate::cc::{compiler, scratch, succeed, STANDARDS, WARNINGS};
 use crate::names::{constant_name, header_names};
@@ -108,6 +111,11 @@ fn comparison(facts: &mut Facts) {
     );
 }
 
+fn slip(facts: &mut Facts) {
+    facts.constant("FARTHEST_SLIP", FARTHEST);
+    record!(facts, "tropfenpfad_slip", Slip: status, slip, disagreements);
+}
+
 #[test]
 fn a_header_that_does_not_compile_alone() {
     let source = scratch("alone.c");
@@ -125,7 +133,7 @@ fn a_header_that_does_not_compile_alone() {
 #[test]
 fn a_record_or_constant_that_differs_in_the_header() {
     let mut facts = Facts::new();
-    for section in [profiles, sizes, refusals, video, bus, comparison] {
+    for section in [profiles, sizes, refusals, video, bus, comparison, slip] {
         section(&mut facts);
     }
     let source = scratch("facts.c");
