@@ -129,6 +129,20 @@ const CELL_LISTS: Values<usize> = Values {
         FRAME_LENGTH,
     ],
 };
+const HELD_LINES: Values<usize> = Values {
+    right: &[LINE_LENGTH],
+    wrong: &[
+        0,
+        1,
+        LINE_LENGTH / 2,
+        LINE_LENGTH - 1,
+        LINE_LENGTH + 1,
+        2 * LINE_LENGTH,
+        LINE_LENGTH + 256,
+        FRAME_LENGTH,
+        LINE_LENGTH + 0x1_0000,
+    ],
+};
 const LATCH_BYTES: [u8; 4] = [0x00, 0x01, 0x82, 0xFF];
 
 /// Numbers of refusals that never apply together: 12 is for a profile above 1, 13 for profile 1.
@@ -154,6 +168,16 @@ pub fn compared_lengths() -> impl Iterator<Item = ([usize; 4], [bool; 4])> {
                     (lent.map(|(length, _)| length), lent.map(|(_, bad)| bad))
                 })
             })
+        })
+    })
+}
+
+/// Lengths of a reference and a grabbed line, and which are wrong.
+pub fn held_lengths() -> impl Iterator<Item = ([usize; 2], [bool; 2])> {
+    HELD_LINES.each().flat_map(|reference| {
+        HELD_LINES.each().map(move |grabbed| {
+            let lent = [reference, grabbed];
+            (lent.map(|(length, _)| length), lent.map(|(_, bad)| bad))
         })
     })
 }
