@@ -3,13 +3,14 @@
 use std::fmt::Write;
 
 use tropfenpfad_sys::{
-    Latches, Painted, State, FRAME_LENGTH, IMAGE_LENGTH, IMAGE_LENGTH_16K, LINES, LINE_LENGTH,
-    LISTED_CELLS, PROFILE_16K, PROFILE_48K,
+    Latches, Painted, Slip, State, FRAME_LENGTH, IMAGE_LENGTH, IMAGE_LENGTH_16K, LINES,
+    LINE_LENGTH, LISTED_CELLS, PROFILE_16K, PROFILE_48K,
 };
 
 use crate::inputs::image_length;
-use crate::model::{compare, Bus, Video};
+use crate::model::{compare, slip, Bus, Video};
 use crate::random::step;
+use crate::slips::{moved, stripes};
 
 /// Where the generator and the digest start.
 const START: u64 = 0x9E37_79B9_7F4A_7C15;
@@ -60,8 +61,18 @@ const COMPARED: [[usize; 4]; 4] = [
     [FRAME_LENGTH, FRAME_LENGTH, LINES, LISTED_CELLS + 1],
 ];
 
+/// Out of 65,536 pixels of a generated line that has slipped, so many are changed on the mean.
+const CHANGED: u64 = 4096;
+/// Widths of stripes, on both sides of the farthest slip.
+const WIDTHS: [usize; 7] = [1, 2, 3, 11, 12, 13, LINE_LENGTH];
+/// Lengths of a reference and a grabbed line, of each pair one wrong.
+const HELD_LINES: [[usize; 2]; 2] = [
+    [LINE_LENGTH - 1, LINE_LENGTH],
+    [LINE_LENGTH, LINE_LENGTH + 1],
+];
+
 /// All lines, each ended by a line feed: limits, decodes and images of the 48K machine, then of the
-/// 16K machine, whose lines begin with the profile, then comparisons.
+/// 16K machine, whose lines begin with the profile, then comparisons, then slips.
 pub fn lines() -> String {
     let (video, bus) = (Video::new(), Bus::new());
     let mut text = String::new();
@@ -100,6 +111,15 @@ pub fn lines() -> String {
     }
     for lengths in COMPARED {
         text += &compared_lengths_line(lengths);
+    }
+    for (number, slip) in (0..).zip(slip::SLIPS) {
+        text += &moved_line(number, slip);
+    }
+    for width in WIDTHS {
+        text += &stripes_line(width);
+    }
+    for lengths in HELD_LINES {
+        text += &held_lengths_line(lengths);
     }
     text
 }
@@ -182,7 +202,8 @@ fn image_line(model: &Video, profile: u8, image: u64) -> String {
 
 /// Compares a generated pair of frames, with lists that hold something else before.
 fn comparison_line(number: u64, limit: u64) -> String {
-    let (first, second) = generate_pair(number, limit);
+    let first = random_bytes(number, FRAME_LENGTH);
+    let second = changed(&first, number, limit);
     let (mut line_counts, mut cells) = ([7; LINES], [7; LISTED_CELLS]);
     let answer = compare::compare(&first, &second, &mut line_counts, &mut cells);
     format!(
@@ -209,15 +230,19 @@ fn digest_of(numbers: &[u16]) -> u64 {
     digest.0
 }
 
-fn generate_pair(number: u64, limit: u64) -> (Vec<u8>, Vec<u8>) {
-    let mut x = START + number;
-    let next = |_| {
-        x = step(x);
-        let first = (x >> 32) as u8;
-        let differs = (x >> 40) % 65_536 < limit;
-        (first, first.wrapping_add(differs.into()))
-    };
-    (0..FRAME_LENGTH).map(next).unzip()
+fn random_bytes(number: u64, length: usize) -> Vec<u8> {
+    let byte = |x: u64| (x >> 32) as u8;
+    numbers_from(number).map(byte).take(length).collect()
+}
+
+/// The bytes, of which on the mean so many of 65,536 are greater by one.
+fn changed(bytes: &[u8], number: u64, limit: u64) -> Vec<u8> {
+    let differs = |x: u64| (x >> 40) % 65_536 < limit;
+    let drawn = numbers_from(number).map(differs);
+    let pairs = bytes.iter().zip(drawn);
+    pairs
+        .map(|(byte, differs)| byte.wrapping_add(differs.into()))
+        .collect()
 }
 
 /// Compares frames and lists of zeros with these lengths.
@@ -237,13 +262,45 @@ fn compared_lengths_line(lengths: [usize; 4]) -> String {
     )
 }
 
+/// The slip of a generated line that has been moved so far and then changed here and there.
+fn moved_line(number: u64, slip: i8) -> String {
+    let [reference, incoming] = [number, number + 25].map(|seed| random_bytes(seed, LINE_LENGTH));
+    let grabbed = moved(&reference, slip.into(), &incoming);
+    let grabbed = changed(&grabbed, number, CHANGED);
+    format!("slip moved {slip}: {}", found(&reference, &grabbed))
+}
+
+/// The slip of stripes against others that begin with the other colour.
+fn stripes_line(width: usize) -> String {
+    let reference = stripes(width);
+    let grabbed: Vec<u8> = reference.iter().map(|colour| 1 - colour).collect();
+    format!("slip stripes {width}: {}", found(&reference, &grabbed))
+}
+
+/// The slip of lines of zeros with these lengths.
+fn held_lengths_line([reference, grabbed]: [usize; 2]) -> String {
+    let answer = found(&vec![0; reference], &vec![0; grabbed]);
+    format!("slip lengths {reference} {grabbed}: {answer}")
+}
+
+fn found(reference: &[u8], grabbed: &[u8]) -> String {
+    let Slip {
+        status,
+        slip,
+        disagreements,
+    } = slip::find_slip(reference, grabbed);
+    format!("status {status} slip {slip} disagreements {disagreements}\n")
+}
+
+/// The generator's numbers after this start.
+fn numbers_from(number: u64) -> impl Iterator<Item = u64> {
+    let first = step(START + number);
+    std::iter::successors(Some(first), |&x| Some(step(x)))
+}
+
 fn generate(image: u64, length: usize) -> Vec<u8> {
-    let mut x = START + image;
-    let next = |_| {
-        x = step(x);
-        shaped(image % 4, (x >> 32) as u8, (x >> 40) as u8 % 16)
-    };
-    (0..length).map(next).collect()
+    let byte = |x: u64| shaped(image % 4, (x >> 32) as u8, (x >> 40) as u8 % 16);
+    numbers_from(image).map(byte).take(length).collect()
 }
 
 /// The byte of an image: 0 random, 1 attributes, 2 text, 3 modes.
