@@ -3,13 +3,12 @@
 use std::hint::black_box;
 use std::time::Duration;
 
-use tropfenpfad_conformance::calls;
 use tropfenpfad_conformance::comparisons::{Lists, HELD};
 use tropfenpfad_conformance::images::Kind;
 use tropfenpfad_conformance::random::Xorshift;
 use tropfenpfad_sys::FRAME_LENGTH;
 
-use crate::contest::{subjects, Subject, IMAGES};
+use crate::contest::{painted, subjects, IMAGES};
 use crate::row::best;
 use crate::table::Table;
 
@@ -47,12 +46,6 @@ pub fn print() {
     line(&table, "all pixels", &frames, |_, frame| {
         frame.iter_mut().for_each(change);
     });
-}
-
-fn painted((memory, state): &Subject) -> Vec<u8> {
-    let mut frame = vec![0; FRAME_LENGTH];
-    calls::paint_frame(memory, *state, &mut frame);
-    frame
 }
 
 /// Gives a pixel its complement.

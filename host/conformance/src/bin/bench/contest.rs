@@ -31,6 +31,13 @@ pub fn subjects(kind: Kind) -> Vec<Subject> {
     (0..IMAGES).map(subject).collect()
 }
 
+/// The frame that the library paints.
+pub fn painted((memory, state): &Subject) -> Vec<u8> {
+    let mut frame = vec![0; FRAME_LENGTH];
+    calls::paint_frame(memory, *state, &mut frame);
+    frame
+}
+
 type Paint<'a> = dyn Fn(&[u8], State, &mut [u8]) + 'a;
 
 /// A painter, and what it paints.

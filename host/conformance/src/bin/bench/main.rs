@@ -9,6 +9,7 @@ mod frames_16k;
 mod growth;
 mod head;
 mod row;
+mod slip;
 mod table;
 mod video;
 
@@ -22,5 +23,6 @@ fn main() {
     video::rows(&rows);
     bus::rows(&rows);
     compare::print();
+    slip::print();
     growth::print();
 }
