@@ -3,50 +3,39 @@
 use Prim.Native.Nat.{ℕ, zero, suc, _+_, _≤_, _<_}
 use mathlib.Core.Bool.{Bool, true, false, cond}
 use mathlib.Core.List.{List}
-use mathlib.Core.Logic.{_⊎_, inl, inr, ⊎-elim, _≢_}
-use mathlib.Core.Path.{_≡_, refl, sym, ap, subst, _∙_}
+use mathlib.Core.Logic.{_⊎_, inl, inr, ⊎-elim}
+use mathlib.Core.Path.{_≡_, refl, sym, ap, _∙_}
 use native.Mathlib.Nat.{eq-or-lt-of-le, le-refl}
 use native.Mathlib.Numerals.{add-one}
 use native.Mathlib.Omega.{arith}
 use lib.Dec.{eqb, ltb}
-use lib.IntN.{ℤ, pos, negsuc, natAbs, subℕ, ℤ-discrete}
+use lib.IntN.{ℤ, natAbs, subℕ, ℤ-discrete}
 use borrow.Author.Tests.{eqb-true, eqb-false, ltb-true, ltb-false}
 use Rattle.compare.specs.Internal.{isBetter}
 use Rattle.compare.specs.Slip.{farthestSlip, IsSlip, Behind, disagreements, BestOf, Best}
-use Rattle.compare.proofs.Slips.{place, place-one, place-most, place-at, slip-at, later-positive, positive-one}
+use Rattle.compare.proofs.Slips.{firstSlip, place, lastPlace, place-one, place-most, place-at, slip-at, later-positive, positive-one}
 
--- what the test of two slips tells
-module _ (slip best : ℤ) (count fewest : ℕ) where
-  abbrev Better : Type 0
-  Better = (count < fewest) ⊎ ((count ≡ fewest) × (natAbs slip < natAbs best))
+-- the slips up to a place
+abbrev pub UpTo : ℕ → ℤ → Type 0
+UpTo n slip = IsSlip slip × (place slip ≤ n)
 
-  abbrev Worse : Type 0
-  Worse = (fewest < count) ⊎ ((count ≡ fewest) × (natAbs best ≤ natAbs slip))
+-- two slips are not each behind the other
+behind-one : (a b : ℤ) → Behind a b → Behind b a → a ≡ b
+behind-one a b (inl h) (inl k) = absurd (omega arith)
+behind-one a b (inl h) (inr k) = absurd (omega arith)
+behind-one a b (inr h) (inl k) = absurd (omega arith)
+behind-one a b (inr h) (inr k) = positive-one a b (h .1) (k .1) (h .0)
 
-  better : isBetter slip count best fewest ≡ true → Better
-  better = go (eqb count fewest) refl
-    where
-      go : (same : Bool) → eqb count fewest ≡ same → cond same (ltb (natAbs slip) (natAbs best)) (ltb count fewest) ≡ true → Better
-      go true e nearer = inr (eqb-true count fewest e, ltb-true _ _ nearer)
-      go false e fewer = inl (ltb-true _ _ fewer)
-
-  worse : isBetter slip count best fewest ≡ false → Worse
-  worse = go (eqb count fewest) refl
-    where
-      go : (same : Bool) → eqb count fewest ≡ same → cond same (ltb (natAbs slip) (natAbs best)) (ltb count fewest) ≡ false → Worse
-      go true e nearer = inr (eqb-true count fewest e, ltb-false _ _ nearer)
-      go false e fewer = inl (omega (arith, ltb-false count fewest fewer, eqb-false count fewest e))
+behind-far : (other slip : ℤ) → Behind other slip → natAbs slip ≤ natAbs other
+behind-far other slip (inl h) = omega arith
+behind-far other slip (inr h) = omega arith
 
 module _ (reference grabbed : List ℕ) where
   abbrev count : ℤ → ℕ
   count = disagreements reference grabbed
 
-  -- two slips are not each behind the other
-  behind-one : (a b : ℤ) → Behind a b → Behind b a → a ≡ b
-  behind-one a b (inl h) (inl k) = absurd (omega arith)
-  behind-one a b (inl h) (inr k) = absurd (omega arith)
-  behind-one a b (inr h) (inl k) = absurd (omega arith)
-  behind-one a b (inr h) (inr k) = positive-one a b (h .1) (k .1) (h .0)
+  abbrev pub BestTo : ℕ → ℤ → Type 0
+  BestTo n = BestOf reference grabbed (UpTo n)
 
   module _ (Among : ℤ → Type 0) (slip : ℤ) (best : BestOf reference grabbed Among slip) where
     pub best-one : (other : ℤ) → BestOf reference grabbed Among other → other ≡ slip
@@ -66,23 +55,14 @@ module _ (reference grabbed : List ℕ) where
     no-nearer : (other : ℤ) → Among other → count other ≡ count slip → natAbs slip ≤ natAbs other
     no-nearer other among e = go (ℤ-discrete other slip)
       where
-        behind : Behind other slip → natAbs slip ≤ natAbs other
-        behind (inl h) = omega arith
-        behind (inr h) = omega arith
-
         go : Dec (other ≡ slip) → natAbs slip ≤ natAbs other
         go (yes same) = rw same (le-refl (natAbs slip))
-        go (no distinct) = behind (best .nearest other among distinct e)
+        go (no distinct) = behind-far other slip (best .nearest other among distinct e)
 
--- the slips up to a place
-abbrev pub UpTo : ℕ → ℤ → Type 0
-UpTo n slip = IsSlip slip × (place slip ≤ n)
-
-module _ (reference grabbed : List ℕ) where
-  pub best-first : BestOf reference grabbed (UpTo 0) (negsuc 11)
+  pub best-first : BestTo 0 firstSlip
   best-first =
-      let only : (other : ℤ) → UpTo 0 other → other ≡ negsuc 11 =
-      λ other h. place-one other (negsuc 11) (h .0) (omega arith) (omega (arith, h .1)) in
+      let only : (other : ℤ) → UpTo 0 other → other ≡ firstSlip =
+      λ other h. place-one other firstSlip (h .0) (omega arith) (omega (arith, h .1)) in
       record {
         among = (omega arith, omega arith);
         fewest = λ other h. rw (only other h) (le-refl _);
@@ -90,7 +70,7 @@ module _ (reference grabbed : List ℕ) where
       }
 
   -- one slip more, at the next place
-  module _ (n : ℕ) (best slip : ℤ) (is : IsSlip slip) (next : place slip ≡ n + 1) (before : BestOf reference grabbed (UpTo n) best) where
+  module _ (n : ℕ) (best slip : ℤ) (is : IsSlip slip) (next : place slip ≡ n + 1) (before : BestTo n best) where
     which : (other : ℤ) → UpTo (n + 1) other → UpTo n other ⊎ (other ≡ slip)
     which other h =
         ⊎-elim
@@ -98,33 +78,50 @@ module _ (reference grabbed : List ℕ) where
         (λ (less : place other < n + 1). inl (h .0, omega arith))
         (eq-or-lt-of-le (h .1))
 
-    abbrev many : ℤ → ℕ
-    many = count reference grabbed
+    abbrev Better : Type 0
+    Better = (count slip < count best) ⊎ ((count slip ≡ count best) × (natAbs slip < natAbs best))
 
-    taken-fewest : Better slip best (many slip) (many best) → (other : ℤ) → UpTo n other → many slip ≤ many other
+    abbrev Worse : Type 0
+    Worse = (count best < count slip) ⊎ ((count slip ≡ count best) × (natAbs best ≤ natAbs slip))
+
+    -- what the program's test tells
+    better : isBetter slip (count slip) best (count best) ≡ true → Better
+    better = go (eqb (count slip) (count best)) refl
+      where
+        go : (same : Bool) → eqb (count slip) (count best) ≡ same
+            → cond same (ltb (natAbs slip) (natAbs best)) (ltb (count slip) (count best)) ≡ true → Better
+        go true e nearer = inr (eqb-true (count slip) (count best) e, ltb-true _ _ nearer)
+        go false e fewer = inl (ltb-true _ _ fewer)
+
+    worse : isBetter slip (count slip) best (count best) ≡ false → Worse
+    worse = go (eqb (count slip) (count best)) refl
+      where
+        go : (same : Bool) → eqb (count slip) (count best) ≡ same
+            → cond same (ltb (natAbs slip) (natAbs best)) (ltb (count slip) (count best)) ≡ false → Worse
+        go true e nearer = inr (eqb-true (count slip) (count best) e, ltb-false _ _ nearer)
+        go false e fewer = inl (omega (arith, ltb-false (count slip) (count best) fewer, eqb-false (count slip) (count best) e))
+
+    taken-fewest : Better → (other : ℤ) → UpTo n other → count slip ≤ count other
     taken-fewest (inl fewer) other earlier = omega (arith, before .fewest other earlier)
     taken-fewest (inr nearer) other earlier = omega (arith, before .fewest other earlier)
 
-    taken-nearest : Better slip best (many slip) (many best) → (other : ℤ) → UpTo n other → many other ≡ many slip → Behind other slip
+    taken-nearest : Better → (other : ℤ) → UpTo n other → count other ≡ count slip → Behind other slip
     taken-nearest (inl fewer) other earlier e = absurd (omega (arith, before .fewest other earlier))
-    taken-nearest (inr nearer) other earlier e =
-        inl (omega (arith, no-nearer reference grabbed (UpTo n) best before other earlier (e ∙ nearer .0)))
+    taken-nearest (inr nearer) other earlier e = inl (omega (arith, no-nearer (UpTo n) best before other earlier (e ∙ nearer .0)))
 
-    pub best-taken : isBetter slip (many slip) best (many best) ≡ true → BestOf reference grabbed (UpTo (n + 1)) slip
-    best-taken e =
-        let how = better slip best (many slip) (many best) e in
-        record {
-          among = (is, omega arith);
-          fewest = λ other h. ⊎-elim (taken-fewest how other) (λ same. rw same (le-refl _)) (which other h);
-          nearest = λ other h distinct as-many.
-              ⊎-elim (λ earlier. taken-nearest how other earlier as-many) (λ same. absurd (distinct same)) (which other h);
-        }
+    pub best-taken : isBetter slip (count slip) best (count best) ≡ true → BestTo (n + 1) slip
+    best-taken e = record {
+      among = (is, omega arith);
+      fewest = λ other h. ⊎-elim (taken-fewest (better e) other) (λ same. rw same (le-refl _)) (which other h);
+      nearest = λ other h distinct as-many.
+          ⊎-elim (λ earlier. taken-nearest (better e) other earlier as-many) (λ same. absurd (distinct same)) (which other h);
+    }
 
-    kept-fewest : Worse slip best (many slip) (many best) → many best ≤ many slip
+    kept-fewest : Worse → count best ≤ count slip
     kept-fewest (inl more) = omega arith
     kept-fewest (inr farther) = omega arith
 
-    kept-nearest : Worse slip best (many slip) (many best) → many slip ≡ many best → Behind slip best
+    kept-nearest : Worse → count slip ≡ count best → Behind slip best
     kept-nearest (inl more) e = absurd (omega arith)
     kept-nearest (inr farther) e =
         ⊎-elim
@@ -133,40 +130,37 @@ module _ (reference grabbed : List ℕ) where
         inl
         (eq-or-lt-of-le (farther .1))
 
-    pub best-kept : isBetter slip (many slip) best (many best) ≡ false → BestOf reference grabbed (UpTo (n + 1)) best
-    best-kept e =
-        let how = worse slip best (many slip) (many best) e in
-        record {
-          among = (before .among .0, omega (arith, before .among .1));
-          fewest = λ other h. ⊎-elim (before .fewest other) (λ same. rw same (kept-fewest how)) (which other h);
-          nearest = λ other h distinct as-many.
-              ⊎-elim
-              (λ earlier. before .nearest other earlier distinct as-many)
-              (λ (same : other ≡ slip). rw same (kept-nearest how (sym (ap many same) ∙ as-many)))
-              (which other h);
-        }
+    pub best-kept : isBetter slip (count slip) best (count best) ≡ false → BestTo (n + 1) best
+    best-kept e = record {
+      among = (before .among .0, omega (arith, before .among .1));
+      fewest = λ other h. ⊎-elim (before .fewest other) (λ same. rw same (kept-fewest (worse e))) (which other h);
+      nearest = λ other h distinct as-many.
+          ⊎-elim
+          (λ earlier. before .nearest other earlier distinct as-many)
+          (λ (same : other ≡ slip). rw same (kept-nearest (worse e) (sym (ap count same) ∙ as-many)))
+          (which other h);
+    }
 
-  pub best-whole : (slip : ℤ) → BestOf reference grabbed (UpTo 24) slip → Best reference grabbed slip
+  pub best-whole : (slip : ℤ) → BestTo lastPlace slip → Best reference grabbed slip
   best-whole slip best = record {
     among = best .among .0;
     fewest = λ other is. best .fewest other (is, place-most other is);
     nearest = λ other is. best .nearest other (is, place-most other is);
   }
 
-  module _ (n : ℕ) (h : suc n ≤ 24) (best : ℤ) (before : BestOf reference grabbed (UpTo n) best) where
+  module _ (n : ℕ) (h : suc n ≤ lastPlace) (best : ℤ) (before : BestTo n best) where
     abbrev next : ℤ
     next = subℕ (suc n) farthestSlip
 
-    go-next : (t : Bool) → isBetter next (count reference grabbed next) best (count reference grabbed best) ≡ t
-        → (slip : ℤ) × BestOf reference grabbed (UpTo (suc n)) slip
+    go-next : (t : Bool) → isBetter next (count next) best (count best) ≡ t → (slip : ℤ) × BestTo (suc n) slip
     go-next true e = (next, rw (add-one n) at (best-taken n best next (slip-at (suc n) h) (omega (arith, place-at (suc n))) before e))
     go-next false e = (best, rw (add-one n) at (best-kept n best next (slip-at (suc n) h) (omega (arith, place-at (suc n))) before e))
 
-  best-at : (n : ℕ) → n ≤ 24 → (slip : ℤ) × BestOf reference grabbed (UpTo n) slip
-  best-at zero h = (negsuc 11, best-first)
+  best-at : (n : ℕ) → n ≤ lastPlace → (slip : ℤ) × BestTo n slip
+  best-at zero h = (firstSlip, best-first)
   best-at (suc n) h =
       let earlier = best-at n (omega arith) in
       go-next n h (earlier .0) (earlier .1) _ refl
 
   pub best-exists : (slip : ℤ) × Best reference grabbed slip
-  best-exists = let found = best-at 24 (omega arith) in (found .0, best-whole (found .0) (found .1))
+  best-exists = let found = best-at lastPlace (omega arith) in (found .0, best-whole (found .0) (found .1))

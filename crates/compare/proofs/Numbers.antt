@@ -1,7 +1,7 @@
 -- Laws of the numbers that pass a test: in parts and in pieces, which they are, and how many.
 -- Assumes nothing.
 use Prim.Native.Nat.{ℕ, zero, suc, _+_, _*_, _≤_, _<_}
-use mathlib.Core.Bool.{Bool, true, false}
+use mathlib.Core.Bool.{Bool, true, false, cond}
 use mathlib.Core.List.{List, [], _∷_, _++_, append-nil, append-assoc, flatMap, List·Memᴰ, List·Memᴰ·head, List·Memᴰ·not-nil, Memᴰ·append-left, Memᴰ·append-right}
 use mathlib.Core.Logic.{_⊎_, inl, inr, ⊎-elim}
 use mathlib.Core.Path.{_≡_, refl, sym, ap, ap₂, subst, _∙_}
@@ -157,25 +157,18 @@ module _ (test : ℕ → Bool) where
       let e : suc n ≡ n + 1 = omega arith in
       rw (e, from-count from n, p n (omega arith)) (omega (arith, from-all from n (λ k h. p k (omega arith))))
 
-  -- of a row of two parts one passes whole, and of the other none
-  module _ (m n : ℕ) where
-    plain : (k : ℕ) → 0 + k ≡ k
-    plain k = omega arith
+  from-says : (b : Bool) (from n : ℕ) → ((k : ℕ) → k < n → test (from + k) ≡ b) → length (passingFrom test from n) ≡ cond b n 0
+  from-says true from n says = from-all from n says
+  from-says false from n says = ap length (from-nothing from n says)
 
-    parts-length : length (passingFrom test 0 (m + n)) ≡ length (passingFrom test 0 m) + length (passingFrom test (0 + m) n)
-    parts-length = ap length (from-parts 0 m n) ∙ length-append (passingFrom test 0 m) (passingFrom test (0 + m) n)
-
-    pub from-first : ((k : ℕ) → k < m → test k ≡ true) → ((k : ℕ) → k < n → test (m + k) ≡ false) → length (passingFrom test 0 (m + n)) ≡ m
-    from-first passes fails =
-        let first = from-all 0 m (λ k h. rw (plain k) (passes k h)) in
-        let rest = from-nothing (0 + m) n (λ k h. rw (plain m) (fails k h)) in
-        omega (arith, parts-length, first, ap length rest)
-
-    pub from-last : ((k : ℕ) → k < m → test k ≡ false) → ((k : ℕ) → k < n → test (m + k) ≡ true) → length (passingFrom test 0 (m + n)) ≡ n
-    from-last fails passes =
-        let first = from-nothing 0 m (λ k h. rw (plain k) (fails k h)) in
-        let rest = from-all (0 + m) n (λ k h. rw (plain m) (passes k h)) in
-        omega (arith, parts-length, ap length first, rest)
+  -- a row in two parts, of each of which the test says one thing
+  pub two-parts : (m n : ℕ) (b c : Bool) → ((k : ℕ) → k < m → test k ≡ b) → ((k : ℕ) → k < n → test (m + k) ≡ c)
+      → length (passingFrom test 0 (m + n)) ≡ cond b m 0 + cond c n 0
+  two-parts m n b c one other =
+      let plain : (k : ℕ) → 0 + k ≡ k = λ k. omega arith in
+      ap length (from-parts 0 m n)
+      ∙ length-append (passingFrom test 0 m) (passingFrom test (0 + m) n)
+      ∙ ap₂ _+_ (from-says b 0 m (λ k h. rw (plain k) (one k h))) (from-says c (0 + m) n (λ k h. rw (plain m) (other k h)))
 
 -- two tests that say the same of each of the row
 pub from-same : (test other : ℕ → Bool) (from n : ℕ) → ((k : ℕ) → k < n → test (from + k) ≡ other (from + k))

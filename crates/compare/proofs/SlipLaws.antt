@@ -4,7 +4,7 @@ use Prim.Native.Nat.{ℕ, zero, suc, _+_, _-_, _≤_, _<_}
 use mathlib.Core.Bool.{Bool, true, false, not, _||_}
 use mathlib.Core.List.{List}
 use mathlib.Core.Logic.{inl, _≢_}
-use mathlib.Core.Path.{_≡_, refl, sym, ap, subst, _∙_}
+use mathlib.Core.Path.{_≡_, refl, sym, ap, _∙_}
 use native.Mathlib.Omega.{arith}
 use lib.Dec.{eqb, leb}
 use lib.IntN.{ℤ, pos, negsuc, natAbs, subℕ, _+ℤ_}
@@ -12,10 +12,10 @@ use lib.ListN.{length, getD}
 use borrow.Author.Tests.{leb-false, lt-ltb, le-ltb, le-leb, lt-leb, eq-eqb}
 use Rattle.machine.specs.Sizes.{lineLength}
 use Rattle.compare.specs.Numbers.{passingFrom}
-use Rattle.compare.specs.Slip.{IsSlip, isOutside, Behind, disagrees, disagreements, Best, slipped, unsearched, slipStatus, GivesBest, IsSlipAnswer}
-use Rattle.compare.specs.SlipLaws.{OneBestSlip, OneSlipAnswer, EqualLinesHaveNoSlip, Moved, MovedBy, MovedLineDisagreesBySlip}
+use Rattle.compare.specs.Slip.{IsSlip, isOutside, disagrees, disagreements, Best, slipped, unsearched, slipStatus, IsSlipAnswer}
+use Rattle.compare.specs.SlipLaws.{OneBestSlip, OneSlipAnswer, EqualLinesHaveNoSlip, Moved, MovedLineDisagreesBySlip}
 use Rattle.compare.proofs.Best.{best-one, best-exists}
-use Rattle.compare.proofs.Numbers.{from-first, from-last, from-same}
+use Rattle.compare.proofs.Numbers.{two-parts, from-same}
 use Rattle.compare.specs.declared.slip.Slip.{Slip}
 
 pub one-best-slip : OneBestSlip
@@ -59,16 +59,16 @@ module _ (x b : ℕ) where
 leaving : (slip : ℤ) → IsSlip slip → length (passingFrom (leaves slip) 0 lineLength) ≡ natAbs slip
 leaving (pos n) is =
     let parts : lineLength ≡ lineLength - n + n = omega arith in
-    ap (λ (size : ℕ). length (passingFrom (leaves (pos n)) 0 size)) parts
-    ∙ from-last (leaves (pos n)) (lineLength - n) n
+    let count = two-parts (leaves (pos n)) (lineLength - n) n false true
     (λ k h. lt-leb lineLength (k + n) (omega arith))
-    (λ k h. le-leb lineLength (lineLength - n + k + n) (omega arith))
+    (λ k h. le-leb lineLength (lineLength - n + k + n) (omega arith)) in
+    ap (λ (size : ℕ). length (passingFrom (leaves (pos n)) 0 size)) parts ∙ count ∙ (omega arith)
 leaving (negsuc n) is =
     let parts : lineLength ≡ suc n + (lineLength - suc n) = omega arith in
-    ap (λ (size : ℕ). length (passingFrom (leaves (negsuc n)) 0 size)) parts
-    ∙ from-first (leaves (negsuc n)) (suc n) (lineLength - suc n)
+    let count = two-parts (leaves (negsuc n)) (suc n) (lineLength - suc n) true false
     (λ k h. before-line k (suc n) (omega arith))
-    (λ k h. on-line (suc n + k) (suc n) (omega arith) (omega arith))
+    (λ k h. on-line (suc n + k) (suc n) (omega arith) (omega arith)) in
+    ap (λ (size : ℕ). length (passingFrom (leaves (negsuc n)) 0 size)) parts ∙ count ∙ (omega arith)
 
 module _ (reference grabbed : List ℕ) (slip : ℤ) (moved : Moved reference grabbed slip) where
   -- a pixel that stays on the line is found again

@@ -2,18 +2,24 @@
 -- Assumes nothing.
 use Prim.Native.Nat.{ℕ, zero, suc, _+_, _-_, _≤_, _<_}
 use mathlib.Core.Bool.{Bool, true, false, cond}
-use mathlib.Core.Path.{_≡_, refl, ap, subst, _∙_}
+use mathlib.Core.Path.{_≡_, refl, ap, _∙_}
 use native.Mathlib.Omega.{arith}
 use lib.Dec.{ltb, lt→ltb}
 use lib.IntN.{ℤ, pos, negsuc, natAbs, sucℤ, subℕ, _+ℤ_, +ℤ-one}
 use lib.Signed.{_<ℤ_, ltZ}
-use borrow.Author.Tests.{ltb-true, ltb-false, lt-ltb}
+use borrow.Author.Tests.{ltb-true, ltb-false}
 use Rattle.compare.specs.Slip.{farthestSlip, IsSlip}
+
+abbrev pub firstSlip : ℤ
+firstSlip = negsuc 11
 
 -- 0 for -12 and 24 for 12
 abbrev pub place : ℤ → ℕ
 place (pos n) = farthestSlip + n
 place (negsuc n) = farthestSlip - suc n
+
+abbrev pub lastPlace : ℕ
+lastPlace = 24
 
 pub place-one : (a b : ℤ) → IsSlip a → IsSlip b → place a ≡ place b → a ≡ b
 place-one (pos m) (pos n) one other e = ap pos (omega arith)
@@ -21,7 +27,7 @@ place-one (pos m) (negsuc n) one other e = absurd (omega arith)
 place-one (negsuc m) (pos n) one other e = absurd (omega arith)
 place-one (negsuc m) (negsuc n) one other e = ap negsuc (omega arith)
 
-pub place-most : (slip : ℤ) → IsSlip slip → place slip ≤ 24
+pub place-most : (slip : ℤ) → IsSlip slip → place slip ≤ lastPlace
 place-most (pos n) is = omega arith
 place-most (negsuc n) is = omega arith
 
@@ -30,7 +36,7 @@ next-place (pos n) is = omega arith
 next-place (negsuc zero) is = refl
 next-place (negsuc (suc n)) is = omega arith
 
-next-slip : (slip : ℤ) → IsSlip slip → place slip < 24 → IsSlip (sucℤ slip)
+next-slip : (slip : ℤ) → IsSlip slip → place slip < lastPlace → IsSlip (sucℤ slip)
 next-slip (pos n) is h = omega arith
 next-slip (negsuc zero) is h = omega arith
 next-slip (negsuc (suc n)) is h = omega arith
@@ -39,15 +45,15 @@ module _ (slip : ℤ) (is : IsSlip slip) where
   pub place-next : place (slip +ℤ pos 1) ≡ place slip + 1
   place-next = ap place (+ℤ-one slip) ∙ next-place slip is
 
-  pub slip-next : place slip < 24 → IsSlip (slip +ℤ pos 1)
+  pub slip-next : place slip < lastPlace → IsSlip (slip +ℤ pos 1)
   slip-next h = rw (+ℤ-one slip) (next-slip slip is h)
 
 -- what a test against the last slip tells
-pub place-before : (slip : ℤ) {last : ℕ} → IsSlip slip → ltZ slip (pos last) ≡ true → last ≤ farthestSlip → place slip < 24
+pub place-before : (slip : ℤ) {last : ℕ} → IsSlip slip → ltZ slip (pos last) ≡ true → last ≤ farthestSlip → place slip < lastPlace
 place-before (pos n) {last} is e h = omega (arith, ltb-true n last e)
 place-before (negsuc n) is e h = omega arith
 
-pub place-last : (slip : ℤ) {last : ℕ} → IsSlip slip → ltZ slip (pos last) ≡ false → last ≡ farthestSlip → place slip ≡ 24
+pub place-last : (slip : ℤ) {last : ℕ} → IsSlip slip → ltZ slip (pos last) ≡ false → last ≡ farthestSlip → place slip ≡ lastPlace
 place-last (pos n) {last} is e h = omega (arith, ltb-false n last e)
 place-last (negsuc n) is e h = let z : _≡_ {A = ℕ} 0 1 = cc in absurd (omega arith)
 
@@ -60,11 +66,11 @@ module _ (n : ℕ) where
   pub place-at : place (subℕ n farthestSlip) ≡ n
   place-at = go-place (ltb n farthestSlip) refl
 
-  go-slip : (t : Bool) → ltb n farthestSlip ≡ t → n ≤ 24 → IsSlip (cond t (negsuc (farthestSlip - suc n)) (pos (n - farthestSlip)))
+  go-slip : (t : Bool) → ltb n farthestSlip ≡ t → n ≤ lastPlace → IsSlip (cond t (negsuc (farthestSlip - suc n)) (pos (n - farthestSlip)))
   go-slip true e h = omega (arith, ltb-true n farthestSlip e)
   go-slip false e h = omega (arith, ltb-false n farthestSlip e)
 
-  pub slip-at : n ≤ 24 → IsSlip (subℕ n farthestSlip)
+  pub slip-at : n ≤ lastPlace → IsSlip (subℕ n farthestSlip)
   slip-at = go-slip (ltb n farthestSlip) refl
 
 -- of two slips as far from zero the later one is positive

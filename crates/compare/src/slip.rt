@@ -49,7 +49,7 @@ fn refused(status: u8) -> Slip
     }
 }
 
-// From the left to the right, so that of -n and n the first stays.
+// The slips are tried from -12 up: of -n and n with as many disagreements the first stays.
 fn best_slip(reference: &[u8], grabbed: &[u8]) -> Slip
     requires { ⌜ AreLines (now reference) (now grabbed) ⌝ }
     ensures { λ r. ⌜ GivesBest (now (reference .entry)) (now (grabbed .entry)) r ⌝ }
@@ -109,7 +109,7 @@ fn disagreements(reference: &[u8], grabbed: &[u8], slip: isize) -> u16
     count
 }
 
-// The reference's pixel x is held against the grabbed pixel x + slip.
+// Whether the grabbed line has no pixel x + slip, or another byte there than the reference at x.
 fn disagrees(reference: &[u8], grabbed: &[u8], x: usize, slip: isize) -> bool
     requires { ⌜ AreLines (now reference) (now grabbed) ⌝ }
     requires { ⌜ x < lineLength ⌝ }

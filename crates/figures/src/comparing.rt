@@ -53,7 +53,7 @@ fn report_list(name: &[u8], numbers: &[u16]) {
 }
 
 // Another byte at each place whose number of the generator is below the limit.
-fn change(frame: &mut [u8], seed: u64, limit: u64) {
+pub(crate) fn change(frame: &mut [u8], seed: u64, limit: u64) {
     let mut x = seed;
     let mut at = 0;
     while at < frame.len() {

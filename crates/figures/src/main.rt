@@ -1,11 +1,12 @@
 // The figures of document 01 that are run, the decode of every address, and digests of generated frames, a line each; then the same
-// of the 16K machine; then comparisons of frames.
+// of the 16K machine; then comparisons of frames, and slips of lines.
 mod comparing;
 mod decoding;
 mod generated;
 mod mixing;
 mod painting;
 mod report;
+mod slipping;
 
 use machine::PROFILE_16K;
 use machine::PROFILE_48K;
@@ -21,4 +22,7 @@ fn main() {
     generated::frames(PROFILE_16K);
     comparing::pairs();
     comparing::lengths();
+    slipping::moves();
+    slipping::widths();
+    slipping::lengths();
 }

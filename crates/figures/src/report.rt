@@ -11,6 +11,23 @@ pub(crate) fn field(name: &[u8], n: u64) {
     io::print_decimal(STDOUT_FILENO, n);
 }
 
+pub(crate) fn signed_field(name: &[u8], n: i8) {
+    text(name);
+    if n < 0 {
+        text(b"-");
+    }
+    io::print_decimal(STDOUT_FILENO, distance(n));
+}
+
+// From zero.
+fn distance(n: i8) -> u64 {
+    if n < 0 {
+        (-(n as i64)) as u64
+    } else {
+        n as u64
+    }
+}
+
 pub(crate) fn profile(profile: u8) {
     field(b"profile ", profile as u64);
     text(b" ");

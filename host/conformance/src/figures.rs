@@ -66,7 +66,7 @@ const CHANGED: u64 = 4096;
 /// Widths of stripes, on both sides of the farthest slip.
 const WIDTHS: [usize; 7] = [1, 2, 3, 11, 12, 13, LINE_LENGTH];
 /// Lengths of a reference and a grabbed line, of each pair one wrong.
-const HELD_LINES: [[usize; 2]; 2] = [
+const SEARCHED: [[usize; 2]; 2] = [
     [LINE_LENGTH - 1, LINE_LENGTH],
     [LINE_LENGTH, LINE_LENGTH + 1],
 ];
@@ -118,8 +118,8 @@ pub fn lines() -> String {
     for width in WIDTHS {
         text += &stripes_line(width);
     }
-    for lengths in HELD_LINES {
-        text += &held_lengths_line(lengths);
+    for lengths in SEARCHED {
+        text += &searched_lengths_line(lengths);
     }
     text
 }
@@ -264,7 +264,8 @@ fn compared_lengths_line(lengths: [usize; 4]) -> String {
 
 /// The slip of a generated line that has been moved so far and then changed here and there.
 fn moved_line(number: u64, slip: i8) -> String {
-    let [reference, incoming] = [number, number + 25].map(|seed| random_bytes(seed, LINE_LENGTH));
+    let other = number + slip::SLIPS.count() as u64;
+    let [reference, incoming] = [number, other].map(|seed| random_bytes(seed, LINE_LENGTH));
     let grabbed = moved(&reference, slip.into(), &incoming);
     let grabbed = changed(&grabbed, number, CHANGED);
     format!("slip moved {slip}: {}", found(&reference, &grabbed))
@@ -278,7 +279,7 @@ fn stripes_line(width: usize) -> String {
 }
 
 /// The slip of lines of zeros with these lengths.
-fn held_lengths_line([reference, grabbed]: [usize; 2]) -> String {
+fn searched_lengths_line([reference, grabbed]: [usize; 2]) -> String {
     let answer = found(&vec![0; reference], &vec![0; grabbed]);
     format!("slip lengths {reference} {grabbed}: {answer}")
 }

@@ -129,7 +129,7 @@ const CELL_LISTS: Values<usize> = Values {
         FRAME_LENGTH,
     ],
 };
-const HELD_LINES: Values<usize> = Values {
+const SEARCHED: Values<usize> = Values {
     right: &[LINE_LENGTH],
     wrong: &[
         0,
@@ -173,9 +173,9 @@ pub fn compared_lengths() -> impl Iterator<Item = ([usize; 4], [bool; 4])> {
 }
 
 /// Lengths of a reference and a grabbed line, and which are wrong.
-pub fn held_lengths() -> impl Iterator<Item = ([usize; 2], [bool; 2])> {
-    HELD_LINES.each().flat_map(|reference| {
-        HELD_LINES.each().map(move |grabbed| {
+pub fn searched_lengths() -> impl Iterator<Item = ([usize; 2], [bool; 2])> {
+    SEARCHED.each().flat_map(|reference| {
+        SEARCHED.each().map(move |grabbed| {
             let lent = [reference, grabbed];
             (lent.map(|(length, _)| length), lent.map(|(_, bad)| bad))
         })

@@ -122,7 +122,7 @@ fn equal_lines_that_have_slipped() {
 }
 
 #[test]
-fn a_pixel_held_against_another() {
+fn a_pixel_compared_with_another() {
     let mut bench = Bench::default();
     let mut generator = Xorshift::new(1);
     let distinct = Distinct::new(&mut generator);

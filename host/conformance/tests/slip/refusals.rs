@@ -3,7 +3,7 @@
 
 use tropfenpfad_conformance::calls;
 use tropfenpfad_conformance::model::slip;
-use tropfenpfad_conformance::refusals::{held_lengths, lent_bytes, Tally};
+use tropfenpfad_conformance::refusals::{lent_bytes, searched_lengths, Tally};
 use tropfenpfad_conformance::slips::{moved, FindSlip};
 use tropfenpfad_sys::{Slip, LINE_LENGTH};
 
@@ -33,7 +33,7 @@ fn refuse(name: &str, find_slip: FindSlip) {
         &slipped(&reference, -7),
     ] {
         let untouched = [reference.clone(), grabbed.clone()];
-        for (lengths, wrong) in held_lengths() {
+        for (lengths, wrong) in searched_lengths() {
             let number = tally.due(&wrong.map(|bad| (2, bad)));
             let answer = find_slip(&reference[..lengths[0]], &grabbed[..lengths[1]]);
             let what = format!("{name}: lengths {lengths:?}");

@@ -4,7 +4,7 @@ use tropfenpfad::{Refusal, Slip};
 use tropfenpfad_conformance::calls;
 use tropfenpfad_conformance::inputs::random_bytes;
 use tropfenpfad_conformance::model::slip::SLIPS;
-use tropfenpfad_conformance::refusals::{held_lengths, lent_bytes, result};
+use tropfenpfad_conformance::refusals::{lent_bytes, result, searched_lengths};
 use tropfenpfad_conformance::slips::moved;
 use tropfenpfad_sys::{self as ffi, LINE_LENGTH};
 
@@ -27,7 +27,7 @@ fn compare(reference: &[u8], grabbed: &[u8]) -> Result<Slip, Refusal> {
 fn a_slip_that_the_wrapper_gives_otherwise() {
     let line = lent_bytes();
     let mut compared = 0;
-    for ([reference, grabbed], wrong) in held_lengths() {
+    for ([reference, grabbed], wrong) in searched_lengths() {
         let given = compare(&line[..reference], &line[..grabbed]);
         assert_eq!(given.is_err(), wrong.contains(&true));
         compared += 1;

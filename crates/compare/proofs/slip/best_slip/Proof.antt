@@ -9,21 +9,21 @@ use mir.Val.{SFits, toZ, ofZ}
 use mir.ValLaws.{toZ-ofZ}
 use denote.Ref.{now}
 use Rattle.compare.specs.Internal.{isBetter}
-use Rattle.compare.specs.Slip.{IsSlip, disagreements, BestOf}
-use Rattle.compare.proofs.Best.{UpTo, best-first, best-taken, best-kept, best-whole}
+use Rattle.compare.specs.Slip.{IsSlip, disagreements}
+use Rattle.compare.proofs.Best.{BestTo, best-first, best-taken, best-kept, best-whole}
 use Rattle.compare.proofs.Signed.{near-fits, slip-fits}
-use Rattle.compare.proofs.Slips.{place, place-next, slip-next, place-before, place-last}
+use Rattle.compare.proofs.Slips.{place, lastPlace, place-next, slip-next, place-before, place-last}
 use Rattle.compare.proofs.slip.best_slip.Statement.{statement}
 use Rattle.compare.proofs.slip.best_slip.Tie as tie
 
 abbrev Inv-loop : tie.InvT-loop
 Inv-loop reference grabbed slip₀ best₀ fewest₀ slip best fewest =
     IsSlip (toZ w64 slip)
-    × BestOf reference grabbed (UpTo (place (toZ w64 slip))) (toZ w64 best)
+    × BestTo reference grabbed (place (toZ w64 slip)) (toZ w64 best)
     × (fewest ≡ disagreements reference grabbed (toZ w64 best))
 
 abbrev μ-loop : tie.MeasureT-loop
-μ-loop reference grabbed slip₀ best₀ fewest₀ slip best fewest = 24 - place (toZ w64 slip)
+μ-loop reference grabbed slip₀ best₀ fewest₀ slip best fewest = lastPlace - place (toZ w64 slip)
 
 loop-holds : tie.Need-loop-holds Inv-loop μ-loop
 loop-holds c =
@@ -35,7 +35,7 @@ module _ (t : tie.In-loop Inv-loop μ-loop) where
   abbrev slip : ℤ
   slip = toZ w64 (t .before .loop .slip)
 
-  left : place slip < 24
+  left : place slip < lastPlace
   left = place-before slip (t .before .loop .inv .0) (t .loop-test .taken) (omega arith)
 
   next-is : IsSlip (slip +ℤ pos 1)
@@ -47,7 +47,7 @@ module _ (t : tie.In-loop Inv-loop μ-loop) where
   next-place : place (slip +ℤ pos 1) ≡ place slip + 1
   next-place = place-next slip (t .before .loop .inv .0)
 
-  less : 24 - place (toZ w64 (ofZ w64 (slip +ℤ pos 1))) < 24 - place slip
+  less : lastPlace - place (toZ w64 (ofZ w64 (slip +ℤ pos 1))) < lastPlace - place slip
   less = rw (next-back, next-place) (omega (arith, left))
 
 disagreements-requires-2 : tie.Need-disagreements-requires-2 Inv-loop μ-loop

@@ -1,6 +1,5 @@
 -- `compare::slip::is_outside` meets its contract. The index is read back from its word, and its sign decides which test tells.
 -- Assumes nothing.
-use mathlib.Core.Path.{_≡_}
 use mir.Syntax.{w64}
 use mir.ValLaws.{toZ-ofZ}
 use borrow.Author.Needs.{needs}
