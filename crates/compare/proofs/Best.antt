@@ -78,50 +78,42 @@ module _ (reference grabbed : List ℕ) where
         (λ (less : place other < n + 1). inl (h .0, omega arith))
         (eq-or-lt-of-le (h .1))
 
-    abbrev Better : Type 0
-    Better = (count slip < count best) ⊎ ((count slip ≡ count best) × (natAbs slip < natAbs best))
+    -- what the program's test tells, that the slip is better or that it is not
+    abbrev Told : Bool → Type 0
+    Told true = (count slip < count best) ⊎ ((count slip ≡ count best) × (natAbs slip < natAbs best))
+    Told false = (count best < count slip) ⊎ ((count slip ≡ count best) × (natAbs best ≤ natAbs slip))
 
-    abbrev Worse : Type 0
-    Worse = (count best < count slip) ⊎ ((count slip ≡ count best) × (natAbs best ≤ natAbs slip))
-
-    -- what the program's test tells
-    better : isBetter slip (count slip) best (count best) ≡ true → Better
-    better = go (eqb (count slip) (count best)) refl
+    told : (t : Bool) → isBetter slip (count slip) best (count best) ≡ t → Told t
+    told = go (eqb (count slip) (count best)) refl
       where
-        go : (same : Bool) → eqb (count slip) (count best) ≡ same
-            → cond same (ltb (natAbs slip) (natAbs best)) (ltb (count slip) (count best)) ≡ true → Better
-        go true e nearer = inr (eqb-true (count slip) (count best) e, ltb-true _ _ nearer)
-        go false e fewer = inl (ltb-true _ _ fewer)
+        go : (same : Bool) → eqb (count slip) (count best) ≡ same → (t : Bool)
+            → cond same (ltb (natAbs slip) (natAbs best)) (ltb (count slip) (count best)) ≡ t → Told t
+        go true e true nearer = inr (eqb-true _ _ e, ltb-true _ _ nearer)
+        go true e false farther = inr (eqb-true _ _ e, ltb-false _ _ farther)
+        go false e true fewer = inl (ltb-true _ _ fewer)
+        go false e false more = inl (omega (arith, ltb-false (count slip) (count best) more, eqb-false (count slip) (count best) e))
 
-    worse : isBetter slip (count slip) best (count best) ≡ false → Worse
-    worse = go (eqb (count slip) (count best)) refl
-      where
-        go : (same : Bool) → eqb (count slip) (count best) ≡ same
-            → cond same (ltb (natAbs slip) (natAbs best)) (ltb (count slip) (count best)) ≡ false → Worse
-        go true e nearer = inr (eqb-true (count slip) (count best) e, ltb-false _ _ nearer)
-        go false e fewer = inl (omega (arith, ltb-false (count slip) (count best) fewer, eqb-false (count slip) (count best) e))
-
-    taken-fewest : Better → (other : ℤ) → UpTo n other → count slip ≤ count other
+    taken-fewest : Told true → (other : ℤ) → UpTo n other → count slip ≤ count other
     taken-fewest (inl fewer) other earlier = omega (arith, before .fewest other earlier)
     taken-fewest (inr nearer) other earlier = omega (arith, before .fewest other earlier)
 
-    taken-nearest : Better → (other : ℤ) → UpTo n other → count other ≡ count slip → Behind other slip
+    taken-nearest : Told true → (other : ℤ) → UpTo n other → count other ≡ count slip → Behind other slip
     taken-nearest (inl fewer) other earlier e = absurd (omega (arith, before .fewest other earlier))
     taken-nearest (inr nearer) other earlier e = inl (omega (arith, no-nearer (UpTo n) best before other earlier (e ∙ nearer .0)))
 
     pub best-taken : isBetter slip (count slip) best (count best) ≡ true → BestTo (n + 1) slip
     best-taken e = record {
       among = (is, omega arith);
-      fewest = λ other h. ⊎-elim (taken-fewest (better e) other) (λ same. rw same (le-refl _)) (which other h);
+      fewest = λ other h. ⊎-elim (taken-fewest (told true e) other) (λ same. rw same (le-refl _)) (which other h);
       nearest = λ other h distinct as-many.
-          ⊎-elim (λ earlier. taken-nearest (better e) other earlier as-many) (λ same. absurd (distinct same)) (which other h);
+          ⊎-elim (λ earlier. taken-nearest (told true e) other earlier as-many) (λ same. absurd (distinct same)) (which other h);
     }
 
-    kept-fewest : Worse → count best ≤ count slip
+    kept-fewest : Told false → count best ≤ count slip
     kept-fewest (inl more) = omega arith
     kept-fewest (inr farther) = omega arith
 
-    kept-nearest : Worse → count slip ≡ count best → Behind slip best
+    kept-nearest : Told false → count slip ≡ count best → Behind slip best
     kept-nearest (inl more) e = absurd (omega arith)
     kept-nearest (inr farther) e =
         ⊎-elim
@@ -133,11 +125,11 @@ module _ (reference grabbed : List ℕ) where
     pub best-kept : isBetter slip (count slip) best (count best) ≡ false → BestTo (n + 1) best
     best-kept e = record {
       among = (before .among .0, omega (arith, before .among .1));
-      fewest = λ other h. ⊎-elim (before .fewest other) (λ same. rw same (kept-fewest (worse e))) (which other h);
+      fewest = λ other h. ⊎-elim (before .fewest other) (λ same. rw same (kept-fewest (told false e))) (which other h);
       nearest = λ other h distinct as-many.
           ⊎-elim
           (λ earlier. before .nearest other earlier distinct as-many)
-          (λ (same : other ≡ slip). rw same (kept-nearest (worse e) (sym (ap count same) ∙ as-many)))
+          (λ (same : other ≡ slip). rw same (kept-nearest (told false e) (sym (ap count same) ∙ as-many)))
           (which other h);
     }
 

@@ -6,6 +6,7 @@ pub mod Listed
 pub mod Whole
 pub mod Accepted
 pub mod Laws
+pub mod Integers
 pub mod Slips
 pub mod Signed
 pub mod Outside

@@ -1,23 +1,20 @@
 -- What the two tests of an index tell: whether it lies outside the line, and which place of the line it is.
 -- Assumes nothing.
-use Prim.Native.Nat.{ℕ, _<_}
-use mathlib.Core.Bool.{true, false}
-use mathlib.Core.Path.{_≡_, refl, sym}
+use Prim.Native.Nat.{_<_}
+use mathlib.Core.Bool.{Bool, true, false, _||_}
+use mathlib.Core.Path.{_≡_, refl, ap}
 use native.Mathlib.Omega.{arith}
-use lib.Dec.{T}
+use lib.Dec.{T, leb}
 use lib.IntN.{ℤ, pos, negsuc, natAbs}
 use lib.Signed.{ltZ, leZ, nonNeg}
-use borrow.Author.Tests.{ltb-true, leb-false}
+use borrow.Author.Tests.{le-ltb, leb-false}
 use Rattle.machine.specs.Sizes.{lineLength}
 use Rattle.compare.specs.Slip.{isOutside}
+use Rattle.compare.proofs.Numbers.{clash}
 
-pub outside-left : (at : ℤ) → ltZ at (pos 0) ≡ true → ltZ at (pos 0) ≡ isOutside at
-outside-left (pos n) e = absurd (omega (arith, ltb-true n 0 e))
-outside-left (negsuc n) e = refl
-
-pub outside-right : (at : ℤ) → ltZ at (pos 0) ≡ false → leZ (pos lineLength) at ≡ isOutside at
-outside-right (pos n) e = refl
-outside-right (negsuc n) e = sym e
+pub outside-is : (at : ℤ) → (ltZ at (pos 0) || leZ (pos lineLength) at) ≡ isOutside at
+outside-is (pos n) = ap (λ (t : Bool). t || leb lineLength n) (le-ltb n 0 (omega arith))
+outside-is (negsuc n) = refl
 
 -- an index that is not outside is a place
 pub record Place (at : ℤ) : Type 0 where
@@ -26,4 +23,4 @@ pub record Place (at : ℤ) : Type 0 where
 
 pub inside : (at : ℤ) → isOutside at ≡ false → Place at
 inside (pos n) e = record { positive = tt; below = leb-false lineLength n e }
-inside (negsuc n) e = let z : _≡_ {A = ℕ} 0 1 = cc in absurd (omega arith)
+inside (negsuc n) e = absurd (clash true refl e)

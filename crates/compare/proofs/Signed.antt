@@ -1,10 +1,10 @@
 -- Signed words: a number near zero fits one, so that it is read back from its bits as it is, negated or added to a place too.
 -- Assumes nothing.
-use Prim.Native.Nat.{ℕ, zero, suc, _-_, _^_, _≤_, _<_}
-use mathlib.Core.Bool.{Bool, true, false, cond}
+use Prim.Native.Nat.{ℕ, zero, suc, _^_, _≤_, _<_}
+use mathlib.Core.Bool.{true, false}
 use mathlib.Core.Path.{_≡_, refl, _∙_}
 use native.Mathlib.Omega.{arith}
-use lib.Dec.{T, ltb}
+use lib.Dec.{T}
 use lib.IntN.{ℤ, pos, negsuc, natAbs, negℤ, _+ℤ_, _-ℤ_, +ℤ-idl}
 use lib.Signed.{mag, ltZ, nonNeg}
 use mir.Syntax.{Width, w64}
@@ -12,7 +12,9 @@ use mir.Val.{SFits, hbits, toZ, ofZ}
 use mir.ValLaws.{toZ-pos, toZ-ofZ}
 use borrow.Author.Tests.{ltb-true}
 use Rattle.machine.specs.Sizes.{lineLength}
-use Rattle.compare.specs.Slip.{farthestSlip, IsSlip}
+use Rattle.compare.specs.Slip.{IsSlip}
+use Rattle.compare.proofs.Integers.{difference}
+use Rattle.compare.proofs.Numbers.{clash}
 
 mag-most : (z : ℤ) → mag z ≤ natAbs z
 mag-most (pos n) = omega arith
@@ -43,17 +45,13 @@ negative-negated (negsuc n) e = tt
 
 pub not-negative : (z : ℤ) → ltZ z (pos 0) ≡ false → T (nonNeg z)
 not-negative (pos n) e = tt
-not-negative (negsuc n) e = let z : _≡_ {A = ℕ} 0 1 = cc in absurd (omega arith)
+not-negative (negsuc n) e = absurd (clash true refl e)
 
 -- a place of a line and a slip: the index that they come to
 module _ (x : ℕ) (h : x < lineLength) where
-  go-sum : (n : ℕ) (t : Bool) → n ≤ farthestSlip → SFits w64 (cond t (negsuc (n - suc x)) (pos (x - n)))
-  go-sum n true is = record { sfits = omega arith }
-  go-sum n false is = record { sfits = omega arith }
-
   pub sum-fits : (slip : ℤ) → IsSlip slip → SFits w64 (pos x +ℤ slip)
   sum-fits (pos n) is = record { sfits = omega arith }
-  sum-fits (negsuc n) is = go-sum (suc n) (ltb x (suc n)) is
+  sum-fits (negsuc n) is = difference x (suc n) (SFits w64) (λ less. record { sfits = omega arith }) (λ more. record { sfits = omega arith })
 
   place-back : toZ w64 x ≡ pos x
   place-back = toZ-pos w64 x (omega arith)

@@ -9,12 +9,13 @@ use native.Mathlib.Omega.{arith}
 use lib.Dec.{eqb, leb}
 use lib.IntN.{ℤ, pos, negsuc, natAbs, subℕ, _+ℤ_}
 use lib.ListN.{length, getD}
-use borrow.Author.Tests.{leb-false, lt-ltb, le-ltb, le-leb, lt-leb, eq-eqb}
+use borrow.Author.Tests.{leb-false, le-leb, lt-leb, eq-eqb}
 use Rattle.machine.specs.Sizes.{lineLength}
 use Rattle.compare.specs.Numbers.{passingFrom}
 use Rattle.compare.specs.Slip.{IsSlip, isOutside, disagrees, disagreements, Best, slipped, unsearched, slipStatus, IsSlipAnswer}
 use Rattle.compare.specs.SlipLaws.{OneBestSlip, OneSlipAnswer, EqualLinesHaveNoSlip, Moved, MovedLineDisagreesBySlip}
 use Rattle.compare.proofs.Best.{best-one, best-exists}
+use Rattle.compare.proofs.Integers.{difference}
 use Rattle.compare.proofs.Numbers.{two-parts, from-same}
 use Rattle.compare.specs.declared.slip.Slip.{Slip}
 
@@ -51,10 +52,11 @@ leaves slip x = isOutside (pos x +ℤ slip)
 
 module _ (x b : ℕ) where
   before-line : x < b → isOutside (subℕ x b) ≡ true
-  before-line h = rw (lt-ltb x b h)
+  before-line h = difference x b (λ (at : ℤ). isOutside at ≡ true) (λ _. refl) (λ more. absurd (omega arith))
 
   on-line : b ≤ x → x < lineLength → isOutside (subℕ x b) ≡ false
-  on-line h k = rw (le-ltb x b h) (lt-leb lineLength (x - b) (omega arith))
+  on-line h k =
+      difference x b (λ (at : ℤ). isOutside at ≡ false) (λ less. absurd (omega arith)) (λ _. lt-leb lineLength (x - b) (omega arith))
 
 leaving : (slip : ℤ) → IsSlip slip → length (passingFrom (leaves slip) 0 lineLength) ≡ natAbs slip
 leaving (pos n) is =

@@ -1,14 +1,16 @@
 -- The slips in a row from -12 on: each has a place of its own, and the next slip the next place.
 -- Assumes nothing.
 use Prim.Native.Nat.{ℕ, zero, suc, _+_, _-_, _≤_, _<_}
-use mathlib.Core.Bool.{Bool, true, false, cond}
+use mathlib.Core.Bool.{true, false}
 use mathlib.Core.Path.{_≡_, refl, ap, _∙_}
 use native.Mathlib.Omega.{arith}
-use lib.Dec.{ltb, lt→ltb}
+use lib.Dec.{lt→ltb}
 use lib.IntN.{ℤ, pos, negsuc, natAbs, sucℤ, subℕ, _+ℤ_, +ℤ-one}
 use lib.Signed.{_<ℤ_, ltZ}
 use borrow.Author.Tests.{ltb-true, ltb-false}
 use Rattle.compare.specs.Slip.{farthestSlip, IsSlip}
+use Rattle.compare.proofs.Integers.{difference}
+use Rattle.compare.proofs.Numbers.{clash}
 
 abbrev pub firstSlip : ℤ
 firstSlip = negsuc 11
@@ -55,23 +57,15 @@ place-before (negsuc n) is e h = omega arith
 
 pub place-last : (slip : ℤ) {last : ℕ} → IsSlip slip → ltZ slip (pos last) ≡ false → last ≡ farthestSlip → place slip ≡ lastPlace
 place-last (pos n) {last} is e h = omega (arith, ltb-false n last e)
-place-last (negsuc n) is e h = let z : _≡_ {A = ℕ} 0 1 = cc in absurd (omega arith)
+place-last (negsuc n) is e h = absurd (clash true refl e)
 
 -- the slip at a place
 module _ (n : ℕ) where
-  go-place : (t : Bool) → ltb n farthestSlip ≡ t → place (cond t (negsuc (farthestSlip - suc n)) (pos (n - farthestSlip))) ≡ n
-  go-place true e = omega (arith, ltb-true n farthestSlip e)
-  go-place false e = omega (arith, ltb-false n farthestSlip e)
-
   pub place-at : place (subℕ n farthestSlip) ≡ n
-  place-at = go-place (ltb n farthestSlip) refl
-
-  go-slip : (t : Bool) → ltb n farthestSlip ≡ t → n ≤ lastPlace → IsSlip (cond t (negsuc (farthestSlip - suc n)) (pos (n - farthestSlip)))
-  go-slip true e h = omega (arith, ltb-true n farthestSlip e)
-  go-slip false e h = omega (arith, ltb-false n farthestSlip e)
+  place-at = difference n farthestSlip (λ (z : ℤ). place z ≡ n) (λ h. omega arith) (λ h. omega arith)
 
   pub slip-at : n ≤ lastPlace → IsSlip (subℕ n farthestSlip)
-  slip-at = go-slip (ltb n farthestSlip) refl
+  slip-at most = difference n farthestSlip IsSlip (λ h. omega arith) (λ h. omega arith)
 
 -- of two slips as far from zero the later one is positive
 pub later-positive : (a b : ℤ) → place a < place b → natAbs b ≡ natAbs a → pos 0 <ℤ b

@@ -23,7 +23,7 @@ farthestSlip = 12
 abbrev pub IsSlip : ℤ → Type 0
 IsSlip slip = natAbs slip ≤ farthestSlip
 
--- an index is none of a line's, 0 to 239
+-- an index falls outside a line, whose places are 0 to 239
 abbrev pub isOutside : ℤ → Bool
 isOutside (pos at) = leb lineLength at
 isOutside (negsuc n) = true
@@ -55,6 +55,7 @@ module _ (reference grabbed : List ℕ) where
     pub fewest : (other : ℤ) → Among other → disagreements slip ≤ disagreements other
     pub nearest : (other : ℤ) → Among other → other ≢ slip → disagreements other ≡ disagreements slip → Behind other slip
 
+  -- of all 25
   abbrev pub Best : ℤ → Type 0
   Best = BestOf IsSlip
 

@@ -126,5 +126,5 @@ fn disagrees(reference: &[u8], grabbed: &[u8], x: usize, slip: isize) -> bool
 fn is_outside(at: isize) -> bool
     ensures { λ r. ⌜ r ≡ isOutside at ⌝ }
 {
-    at < 0 || at >= LINE_LENGTH as isize
+    (at < 0) | (at >= LINE_LENGTH as isize)
 }
