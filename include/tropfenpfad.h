@@ -227,7 +227,8 @@ tropfenpfad_painted tropfenpfad_paint_frame(const uint8_t *memory, size_t memory
 #define TROPFENPFAD_TARGET_CONTROLLER  2 /* disc controller; number: address - 0300 */
 #define TROPFENPFAD_TARGET_BASIC_ROM   3 /* BASIC ROM; number: address - C000 */
 #define TROPFENPFAD_TARGET_OVERLAY_RAM 4 /* RAM from C000 on; number: the address */
-#define TROPFENPFAD_TARGET_BOOT_EPROM  5 /* boot EPROM; number: address - C000 */
+#define TROPFENPFAD_TARGET_BOOT_EPROM  5 /* boot EPROM; number: address - E000 (Microdisc)
+                                            or address - C000 (Jasmin) */
 #define TROPFENPFAD_TARGET_UNASSIGNED  6 /* nothing is there; number: address - 0300 */
 
 /* Which controller is fitted and what was last written to its latches. */
@@ -278,7 +279,8 @@ tropfenpfad_latches tropfenpfad_fresh_latches(void);
  *   C000 to FFFF, by kind:
  *            none       BASIC ROM
  *            Microdisc  bit 1 of first set: BASIC ROM; clear: overlay RAM if
- *                       bit 7 of first is set, else boot EPROM
+ *                       bit 7 of first is set, else boot EPROM from E000 on
+ *                       and overlay RAM below it
  *            Jasmin     bit 0 of first set: overlay RAM; clear: boot EPROM if
  *                       bit 0 of second is set, else BASIC ROM
  *

@@ -39,9 +39,12 @@ bootEprom start address = record { target = 5; number = address - start }
 abbrev pub unassigned : ℕ → Place
 unassigned address = record { target = 6; number = address - 0x300 }
 
--- the boot EPROM answers from C000 on
-abbrev pub epromStart : ℕ
-epromStart = 0xC000
+-- where the boot EPROM begins: the Microdisc's has 8K, the Jasmin's 16K
+abbrev pub epromStart8K : ℕ
+epromStart8K = 0xE000
+
+abbrev pub epromStart16K : ℕ
+epromStart16K = 0xC000
 
 -- from low to high, both included
 abbrev pub between : ℕ → ℕ → ℕ → Bool
@@ -61,14 +64,18 @@ abbrev pub microdiscPage : ℕ → Place
 microdiscPage address =
     cond (between 0x310 0x31F address) (cond (leb address 0x314 || eqb address 0x318) (controller address) (unassigned address)) (via address)
 
--- the Microdisc's latch: bit 1 set is BASIC, else bit 7 set is overlay RAM and clear the EPROM
-abbrev pub microdiscUpper : ℕ → ℕ → Place
-microdiscUpper latch address =
-    cond (bit 2 latch) (basicRom address) (cond (bit 128 latch) (overlayRam address) (bootEprom epromStart address))
+-- the Microdisc with its EPROM selected: E000 to FFFF is the EPROM, and C000 to DFFF overlay RAM
+abbrev pub microdiscEprom : ℕ → Place
+microdiscEprom address = cond (leb epromStart8K address) (bootEprom epromStart8K address) (overlayRam address)
+
+-- the Microdisc's latch: bit 1 set is BASIC, else bit 7 set is overlay RAM and clear selects the EPROM
+abbrev pub microdiscUpper : ℕ → ℕ → Place → Place
+microdiscUpper latch address eprom = cond (bit 2 latch) (basicRom address) (cond (bit 128 latch) (overlayRam address) eprom)
 
 -- the Microdisc, by its one latch
 abbrev pub withMicrodisc : ℕ → ℕ → ℕ → Place
-withMicrodisc profile latch address = areas profile (microdiscPage address) (microdiscUpper latch address) address
+withMicrodisc profile latch address =
+    areas profile (microdiscPage address) (microdiscUpper latch address (microdiscEprom address)) address
 
 -- the Jasmin's page 3: its registers at the end
 abbrev pub jasminPage : ℕ → Place
@@ -77,7 +84,7 @@ jasminPage address = cond (between 0x3F4 0x3FF address) (controller address) (vi
 -- the Jasmin's latches: bit 0 of the first set is overlay RAM, else bit 0 of the second set is the EPROM and clear BASIC
 abbrev pub jasminUpper : ℕ → ℕ → ℕ → Place
 jasminUpper first second address =
-    cond (bit 1 first) (overlayRam address) (cond (bit 1 second) (bootEprom epromStart address) (basicRom address))
+    cond (bit 1 first) (overlayRam address) (cond (bit 1 second) (bootEprom epromStart16K address) (basicRom address))
 
 -- the Jasmin, by its two latches
 abbrev pub withJasmin : ℕ → ℕ → ℕ → ℕ → Place

@@ -33,8 +33,10 @@ const UPPER: u16 = 0xC000;
 
 const VIA_REGISTERS: u16 = 16;
 
-// Where the boot EPROM begins.
-const EPROM_START: u16 = 0xC000;
+// Where the boot EPROM begins: the Microdisc's has 8K, the Jasmin's 16K.
+const EPROM_START_8K: u16 = 0xE000;
+
+const EPROM_START_16K: u16 = 0xC000;
 
 // The bits of the latches, by their weights.
 const MICRODISC_BASIC: u8 = 2;
@@ -112,7 +114,8 @@ fn reach_with_microdisc(profile: u8, latch: u8, address: u16) -> Place
         0x0310..=0x0314 | 0x0318 => to_controller(address),
         0x0310..=0x031F => to_unassigned(address),
         0x0300..=0x03FF => to_via(address),
-        0xC000..=0xFFFF => microdisc_upper(latch, address),
+        0xC000..=0xDFFF => microdisc_upper(latch, address, to_overlay_ram(address)),
+        0xE000..=0xFFFF => microdisc_upper(latch, address, to_boot_eprom(EPROM_START_8K, address)),
         _ => to_ram(profile, address),
     }
 }
@@ -128,16 +131,17 @@ fn reach_with_jasmin(profile: u8, first: u8, second: u8, address: u16) -> Place
     }
 }
 
-fn microdisc_upper(latch: u8, address: u16) -> Place
+// `eprom` is the place that the address reaches where the EPROM is selected.
+fn microdisc_upper(latch: u8, address: u16, eprom: Place) -> Place
     requires { ⌜ 0xC000 ≤ address ⌝ }
-    ensures { λ r. ⌜ r ≡ microdiscUpper latch address ⌝ }
+    ensures { λ r. ⌜ r ≡ microdiscUpper latch address eprom ⌝ }
 {
     if is_set(MICRODISC_BASIC, latch) {
         to_basic_rom(address)
     } else if is_set(MICRODISC_OVERLAY, latch) {
         to_overlay_ram(address)
     } else {
-        to_boot_eprom(EPROM_START, address)
+        eprom
     }
 }
 
@@ -148,7 +152,7 @@ fn jasmin_upper(first: u8, second: u8, address: u16) -> Place
     if is_set(JASMIN_OVERLAY, first) {
         to_overlay_ram(address)
     } else if is_set(JASMIN_EPROM, second) {
-        to_boot_eprom(EPROM_START, address)
+        to_boot_eprom(EPROM_START_16K, address)
     } else {
         to_basic_rom(address)
     }

@@ -14,7 +14,7 @@ use Rattle.video.specs.Cell.{screenByte}
 use Rattle.video.specs.Line.{registersBefore, cellAt}
 use Rattle.video.specs.Ram.{Ram}
 use Rattle.bus.specs.Latch.{freshLatches}
-use Rattle.bus.specs.Place.{place, via, basicRom, overlayRam, bootEprom, epromStart}
+use Rattle.bus.specs.Place.{place, via, basicRom, overlayRam}
 
 -- the mode is text
 abbrev pub Text : ℕ → Type 0
@@ -73,7 +73,8 @@ pub record Figures : Type 0 where
       → screenByte ram 0 5 (registersBefore ram 0 mode 5 .mode) ≡ 0x1A
       → (cellAt ram counter 0 mode 6 .screen ≡ folded (ram .profile) 0xBB86) × (cellAt ram counter 0 mode 6 .mode ≡ 2)
   pub microdisc-FD : (profile second : ℕ) → place profile (record { kind = 1; first = 0xFD; second = second }) 0xC000 ≡ overlayRam 0xC000
-  pub microdisc-00 : (profile second : ℕ) → place profile (record { kind = 1; first = 0x00; second = second }) 0xC000 ≡ bootEprom epromStart 0xC000
+  pub microdisc-00-C000 : (profile second : ℕ) → place profile (record { kind = 1; first = 0x00; second = second }) 0xC000 ≡ overlayRam 0xC000
+  pub microdisc-00-E000 : (profile second : ℕ) → place profile (record { kind = 1; first = 0x00; second = second }) 0xE000 ≡ record { target = 5; number = 0 }
   pub microdisc-02 : (profile second : ℕ) → place profile (record { kind = 1; first = 0x02; second = second }) 0xC000 ≡ basicRom 0xC000
   pub folded-48K : (address : ℕ) → folded 0 address ≡ address
   pub folded-16K-BB80 : folded 1 0xBB80 ≡ 0x3B80

@@ -108,18 +108,20 @@ fn a_new_mode_that_waits_for_the_next_line() {
 
 #[test]
 fn a_microdisc_latch_that_selects_otherwise() {
-    let selected = |first| {
+    let reached = |first, address| {
         let latches = Latches {
             kind: KIND_MICRODISC,
             first,
             second: 0,
         };
-        decode(PROFILE_48K, latches, 0xC000).unwrap().target
+        let place = decode(PROFILE_48K, latches, address).unwrap();
+        (place.target, place.number)
     };
-    assert_eq!(selected(0xFD), Target::OverlayRam);
-    assert_eq!(selected(0x00), Target::BootEprom);
-    assert_eq!(selected(0x02), Target::BasicRom);
-    println!("Microdisc latch: 3 decodes compared");
+    assert_eq!(reached(0xFD, 0xC000), (Target::OverlayRam, 0xC000));
+    assert_eq!(reached(0x00, 0xC000), (Target::OverlayRam, 0xC000));
+    assert_eq!(reached(0x00, 0xE000), (Target::BootEprom, 0));
+    assert_eq!(reached(0x02, 0xC000), (Target::BasicRom, 0));
+    println!("Microdisc latch: 4 decodes compared");
 }
 
 #[test]

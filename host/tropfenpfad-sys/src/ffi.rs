@@ -145,7 +145,8 @@ pub const TARGET_CONTROLLER: u8 = 2;
 pub const TARGET_BASIC_ROM: u8 = 3;
 /// RAM from C000 on; its number is the address.
 pub const TARGET_OVERLAY_RAM: u8 = 4;
-/// The controller's boot EPROM; its number counts from C000.
+/// The controller's boot EPROM; its number counts from E000 for the Microdisc, and from C000 for the
+/// Jasmin.
 pub const TARGET_BOOT_EPROM: u8 = 5;
 /// Nothing is there; its number is the place in page 3.
 pub const TARGET_UNASSIGNED: u8 = 6;

@@ -18,7 +18,8 @@ pub enum Target {
     BasicRom = ffi::TARGET_BASIC_ROM,
     /// RAM from C000 on; its number is the address.
     OverlayRam = ffi::TARGET_OVERLAY_RAM,
-    /// The controller's boot EPROM; its number counts from C000.
+    /// The controller's boot EPROM; its number counts from E000 for the Microdisc, and from C000
+    /// for the Jasmin.
     BootEprom = ffi::TARGET_BOOT_EPROM,
     /// Nothing; its number is the place in page 3.
     Unassigned = ffi::TARGET_UNASSIGNED,
@@ -68,10 +69,17 @@ pub fn fresh_latches() -> Latches {
 /// What answers at an address. Refuses profile, kind, controller.
 ///
 /// ```
-/// use tropfenpfad::{decode, fresh_latches, Target, PROFILE_16K, PROFILE_48K};
+/// use tropfenpfad::{decode, fresh_latches, Latches, Target};
+/// use tropfenpfad::{KIND_MICRODISC, PROFILE_16K, PROFILE_48K};
 ///
 /// let place = decode(PROFILE_48K, fresh_latches(), 0xC123)?;
 /// assert_eq!((place.target, place.number), (Target::BasicRom, 0x0123));
+/// // The Microdisc's EPROM begins at E000, with overlay RAM below it.
+/// let latches = Latches { kind: KIND_MICRODISC, ..fresh_latches() };
+/// let place = decode(PROFILE_48K, latches, 0xE123)?;
+/// assert_eq!((place.target, place.number), (Target::BootEprom, 0x0123));
+/// let place = decode(PROFILE_48K, latches, 0xC123)?;
+/// assert_eq!((place.target, place.number), (Target::OverlayRam, 0xC123));
 /// // The 16K machine folds the addresses of RAM.
 /// let place = decode(PROFILE_16K, fresh_latches(), 0xBB80)?;
 /// assert_eq!((place.target, place.number), (Target::Ram, 0x3B80));

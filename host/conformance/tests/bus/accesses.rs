@@ -1,6 +1,6 @@
 //! The library's decode and bus against the model: targets, numbers, bytes, latches, memory.
 
-use tropfenpfad::Target;
+use tropfenpfad::{Place, Target};
 use tropfenpfad_conformance::accesses::{Form, Step, TwoBuses};
 use tropfenpfad_conformance::calls;
 use tropfenpfad_conformance::images::{self, Kind};
@@ -178,13 +178,14 @@ fn the_two_forms_of_write_that_disagree() {
     in_each_profile(compare_forms_of_write);
 }
 
-/// Writes where no memory answers: fresh latches select no overlay under any kind.
-fn write_where_nothing_stores(profile: u8, kinds: &[u8]) {
+/// Writes where no memory answers: to page 3, and to the ROM or EPROM that fresh latches select,
+/// each kind with the address where that begins.
+fn write_where_nothing_stores(profile: u8, kinds: &[(u8, u16)]) {
     let untouched = images::image(profile, Kind::Random, 6);
     let mut memory = untouched.clone();
     let mut accesses = 0;
-    for &kind in kinds {
-        for address in (0x0300..=0x03FF).chain(0xC000..=0xFFFF) {
+    for &(kind, start) in kinds {
+        for address in (0x0300..=0x03FF).chain(start..=0xFFFF) {
             let byte = !untouched[usize::from(address) % untouched.len()];
             let record = fresh_of_kind(kind);
             let answer = tropfenpfad::write(&mut memory, profile, record, address, byte);
@@ -199,8 +200,56 @@ fn write_where_nothing_stores(profile: u8, kinds: &[u8]) {
 
 #[test]
 fn a_write_that_lands_behind_page_3_or_under_rom() {
-    write_where_nothing_stores(PROFILE_48K, &[KIND_NONE, KIND_MICRODISC, KIND_JASMIN]);
-    write_where_nothing_stores(PROFILE_16K, &[KIND_NONE]);
+    let kinds = [
+        (KIND_NONE, 0xC000),
+        (KIND_MICRODISC, 0xE000),
+        (KIND_JASMIN, 0xC000),
+    ];
+    write_where_nothing_stores(PROFILE_48K, &kinds);
+    write_where_nothing_stores(PROFILE_16K, &kinds[..1]);
+}
+
+/// Decodes, reads and writes every address of the upper 16K, where the EPROM is selected: it
+/// answers from `start` on, and overlay RAM below.
+fn access_upper_16k(record: Latches, start: u16) -> usize {
+    let untouched = images::image(PROFILE_48K, Kind::Random, 7);
+    let mut memory = untouched.clone();
+    for address in 0xC000..=0xFFFF {
+        let held = untouched[usize::from(address)];
+        let (target, number, byte) = if address < start {
+            (Target::OverlayRam, address, held)
+        } else {
+            (Target::BootEprom, address - start, 0)
+        };
+        let place = Place { target, number };
+        let answers = (
+            tropfenpfad::decode(PROFILE_48K, record, address),
+            tropfenpfad::read(&memory, PROFILE_48K, record, address),
+            tropfenpfad::write(&mut memory, PROFILE_48K, record, address, !held),
+        );
+        let due = (Ok(place), Ok((place, byte)), Ok((place, record)));
+        assert_eq!(answers, due, "{address:04x} under {record:?}");
+    }
+    let mut stored = untouched;
+    for byte in &mut stored[0xC000..usize::from(start)] {
+        *byte = !*byte;
+    }
+    assert_eq!(memory, stored, "{record:?}");
+    3 * 0x4000
+}
+
+#[test]
+fn an_eprom_that_begins_elsewhere() {
+    let mut accesses = 0;
+    for byte in 0..=u8::MAX {
+        if byte & 0x82 == 0 {
+            accesses += access_upper_16k(latches(KIND_MICRODISC, byte, !byte), 0xE000);
+        }
+        if byte & 1 == 0 {
+            accesses += access_upper_16k(latches(KIND_JASMIN, byte, !byte), 0xC000);
+        }
+    }
+    println!("EPROM selected: {accesses} decodes, reads and writes compared");
 }
 
 /// What `make check` leaves out.

@@ -9,9 +9,9 @@ use tropfenpfad_conformance::inputs::in_each_profile;
 use tropfenpfad_conformance::model::Bus;
 use tropfenpfad_sys::{self as ffi, Access, Latches, Written};
 
-const ADDRESSES: [u16; 14] = [
+const ADDRESSES: [u16; 16] = [
     0x0000, 0x0300, 0x0314, 0x03FA, 0x03FB, 0x3FFF, 0x4000, 0x4300, 0x7FFF, 0x8000, 0xBFFF, 0xC000,
-    0xFFFE, 0xFFFF,
+    0xDFFF, 0xE000, 0xFFFE, 0xFFFF,
 ];
 
 fn record(kind: u8, first: u8, second: u8) -> Latches {

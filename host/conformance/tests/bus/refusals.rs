@@ -9,8 +9,8 @@ use tropfenpfad_conformance::refusals::{
 };
 use tropfenpfad_sys::{Access, Decoded, Latches, Written, PROFILE_16K, PROFILE_48K};
 
-const ADDRESSES: [u16; 9] = [
-    0x0000, 0x0300, 0x0314, 0x03FA, 0x03FB, 0x4300, 0xBB80, 0xC000, 0xFFFF,
+const ADDRESSES: [u16; 11] = [
+    0x0000, 0x0300, 0x0314, 0x03FA, 0x03FB, 0x4300, 0xBB80, 0xC000, 0xDFFF, 0xE000, 0xFFFF,
 ];
 
 /// Tries a decode with every mix of inputs.

@@ -5,8 +5,8 @@ use tropfenpfad_conformance::calls;
 use tropfenpfad_conformance::refusals::{boards, lent_bytes, memories, result};
 use tropfenpfad_sys::Latches;
 
-const ADDRESSES: [u16; 9] = [
-    0x0000, 0x0300, 0x0314, 0x0318, 0x03FA, 0x03FB, 0x4300, 0xBB80, 0xC123,
+const ADDRESSES: [u16; 10] = [
+    0x0000, 0x0300, 0x0314, 0x0318, 0x03FA, 0x03FB, 0x4300, 0xBB80, 0xC123, 0xE123,
 ];
 
 /// Every mix of a memory length, a profile, latches and an address.

@@ -8,7 +8,7 @@ use tropfenpfad_conformance::inputs::fresh_of_kind;
 use tropfenpfad_conformance::slips::FARTHEST;
 use tropfenpfad_sys::{
     Access, Latches, Painted, State, FRAME_LENGTH, IMAGE_LENGTH, IMAGE_LENGTH_16K, KIND_JASMIN,
-    KIND_NONE, LINE_LENGTH, LISTED_CELLS, PROFILE_16K, PROFILE_48K,
+    KIND_MICRODISC, KIND_NONE, LINE_LENGTH, LISTED_CELLS, PROFILE_16K, PROFILE_48K,
 };
 
 use crate::cc::{build, succeed};
@@ -26,6 +26,7 @@ fn a_call_from_c_that_answers_otherwise() {
         video(&memory[..whole], PROFILE_48K, &mut frame),
         video(&memory[..block], PROFILE_16K, &mut frame),
         video(&memory[..whole], 2, &mut frame),
+        bus(&mut memory[..whole], PROFILE_48K, KIND_MICRODISC),
         bus(&mut memory[..whole], PROFILE_48K, KIND_JASMIN),
         bus(&mut memory[..block], PROFILE_16K, KIND_NONE),
         bus(&mut memory[..block], PROFILE_16K, KIND_JASMIN),

@@ -14,8 +14,8 @@ overlay-returns c =
 
 eprom-returns : tie.Need-returns-3
 eprom-returns c =
-    let clear = c .before .before .before in
-    simp (c .to-boot-eprom .ensures, ← clear .before .is-set .ensures, clear .if1 .left, ← c .before .before .is-set2 .ensures, c .before .if2 .left)
+    let clear = c .before .before in
+    simp (← clear .before .is-set .ensures, clear .if1 .left, ← c .before .is-set2 .ensures, c .if2 .left)
 
 pub microdisc-upper-spec : {M : Type 1} → statement M
 microdisc-upper-spec =
@@ -25,7 +25,6 @@ microdisc-upper-spec =
     (λ c κs. search needs)
     (λ c κs. search needs)
     (λ c κs. tt)
-    (λ c κs. search needs)
     basic-returns
     overlay-returns
     eprom-returns)

@@ -1,4 +1,4 @@
--- `bus::place::reach_with_microdisc` meets its contract: each arm of the match is an area of the decode, or a part of page 3.
+-- `bus::place::reach_with_microdisc` meets its contract: each arm of the match is an area of the decode, or a part of one.
 -- Assumes nothing.
 use mathlib.Core.Bool.{or-true}
 use mathlib.Core.Logic.{⊎-elim}
@@ -23,24 +23,30 @@ unassigned-returns c =
       ne-eqb a 0x318 (omega arith),
     )
 
-upper-returns : tie.Need-returns-2
-upper-returns c =
-    simp (c .microdisc-upper .ensures, in-upper (c .before .before .before .before .before .before .before .before .args .address) (omega arith))
+below-eprom-returns : tie.Need-returns-2
+below-eprom-returns c =
+    let a = c .before .before .before .before .before .before .before .before .before .before .args .address in
+    simp (c .microdisc-upper .ensures, c .before .to-overlay-ram .ensures, in-upper a (omega arith), lt-leb 0xE000 a (omega arith))
 
-via-returns : tie.Need-returns-3
+eprom-returns : tie.Need-returns-3
+eprom-returns c =
+    let a = c .before .before .before .before .before .before .before .before .before .before .args .address in
+    simp (c .microdisc-upper2 .ensures, c .before .to-boot-eprom .ensures, in-upper a (omega arith), le-leb 0xE000 a (omega arith))
+
+via-returns : tie.Need-returns-4
 via-returns c =
     let a = c .before .before .before .before .args .address in
     let around : Within 0x300 0x3FF a × Beyond 0x310 0x31F a = ⊎-elim (λ w. omega arith) (λ w. omega arith) (c .before .if2 .came) in
     simp (c .to-via .ensures, in-page-three a (around .0), beyond 0x310 0x31F a (around .1))
 
-ram-returns : tie.Need-returns-4
+ram-returns : tie.Need-returns-5
 ram-returns c =
     simp (
       c .to-ram .ensures,
       in-ram (c .before .before .before .args .address) (⊎-elim (λ w. omega arith) (λ w. omega arith) (c .before .if1 .came)),
     )
 
-controller-returns : tie.Need-returns-5
+controller-returns : tie.Need-returns-6
 controller-returns c =
     let a = c .before .before .args .address in
     let among : Within 0x310 0x31F a = ⊎-elim (λ w. omega arith) (λ w. omega arith) (c .before .match .came) in
@@ -52,12 +58,16 @@ reach-with-microdisc-spec =
     tie.close
     (tie.spec
     (λ c κs. search needs)
+    (λ c κs. tt)
+    (λ c κs. search needs)
+    (λ c κs. search needs)
     (λ c κs. search needs)
     (λ c κs. tt)
     (λ c κs. tt)
     to-controller-requires
     unassigned-returns
-    upper-returns
+    below-eprom-returns
+    eprom-returns
     via-returns
     ram-returns
     controller-returns)

@@ -12,14 +12,38 @@ const UNASSIGNED: u8 = 6;
 /// In a map: look into page 3.
 const INSIDE: u8 = 7;
 
-/// The address bits that are the number, by profile and target.
-const NUMBER_BITS: [[u16; 8]; 2] = [number_bits(0xFFFF), number_bits(0x3FFF)];
+/// The address bits that are the number, by profile, kind and target. The 16K machine takes no
+/// controller.
+const NUMBER_BITS: [[[u16; 8]; 3]; 2] = [
+    [
+        number_bits(0xFFFF, 0),
+        number_bits(0xFFFF, 0x1FFF),
+        number_bits(0xFFFF, 0x3FFF),
+    ],
+    [number_bits(0x3FFF, 0); 3],
+];
 
-/// By target, those of RAM given. Each other target's range starts at a multiple of its mask plus
-/// one, so that the bits left are the address less that start.
-const fn number_bits(ram: u16) -> [u16; 8] {
-    [ram, 0x000F, 0x00FF, 0x3FFF, 0xFFFF, 0x3FFF, 0x00FF, 0]
+/// By target, those of RAM and of the EPROM given. Every number but RAM's counts from a multiple of
+/// its mask plus one, so that the bits left are the address less that start.
+const fn number_bits(ram: u16, eprom: u16) -> [u16; 8] {
+    [ram, 0x000F, 0x00FF, 0x3FFF, 0xFFFF, eprom, 0x00FF, 0]
 }
+
+/// What answers from C000 to DFFF, and what from E000 to FFFF.
+type Halves = [u8; 2];
+const BASIC: Halves = [BASIC_ROM; 2];
+const OVERLAY: Halves = [OVERLAY_RAM; 2];
+const EPROM_8K: Halves = [OVERLAY_RAM, BOOT_EPROM];
+const EPROM_16K: Halves = [BOOT_EPROM; 2];
+
+/// What lies at C000, by kind and by two latch bits.
+const UPPER: [[Halves; 4]; 3] = [
+    [BASIC; 4],
+    // Bit 7, then bit 1 of the first latch.
+    [EPROM_8K, BASIC, OVERLAY, BASIC],
+    // Bit 0 of the second latch, then of the first.
+    [BASIC, OVERLAY, EPROM_16K, OVERLAY],
+];
 
 const NO_LATCH: u8 = 0;
 const FIRST: u8 = 1;
@@ -32,37 +56,29 @@ struct Page3 {
 }
 
 pub(super) struct Decoder {
-    /// The target of each page, by what lies at C000.
-    maps: [[u8; 256]; 8],
+    /// The target of each page, by kind and by two latch bits.
+    maps: [[[u8; 256]; 4]; 3],
     page3: [Page3; 3],
-    /// What lies at C000, by kind and by two latch bits.
-    upper: [[u8; 4]; 3],
 }
 
 impl Decoder {
     pub(super) fn new() -> Self {
         Decoder {
-            maps: std::array::from_fn(|upper| map(upper as u8)),
+            maps: UPPER.map(|by_bits| by_bits.map(map)),
             page3: [no_controller(), microdisc(), jasmin()],
-            upper: [
-                [BASIC_ROM; 4],
-                // Bit 7, then bit 1 of the first latch.
-                [BOOT_EPROM, BASIC_ROM, OVERLAY_RAM, BASIC_ROM],
-                // Bit 0 of the second latch, then of the first.
-                [BASIC_ROM, OVERLAY_RAM, BOOT_EPROM, OVERLAY_RAM],
-            ],
         }
     }
 
     /// The target and its number; the profile is known to be 0 or 1, the kind 0 to 2.
     #[inline]
     pub(super) fn decode(&self, profile: u8, latches: Latches, address: u16) -> (u8, u16) {
-        let page = usize::from(address >> 8);
-        let mut target = self.maps[usize::from(self.upper(latches))][page];
+        let kind = usize::from(latches.kind);
+        let [page, byte] = address.to_be_bytes().map(usize::from);
+        let mut target = self.maps[kind][latch_bits(latches)][page];
         if target == INSIDE {
-            target = self.page3[usize::from(latches.kind)].target[usize::from(address & 0xFF)];
+            target = self.page3[kind].target[byte];
         }
-        let bits = NUMBER_BITS[usize::from(profile)][usize::from(target)];
+        let bits = NUMBER_BITS[usize::from(profile)][kind][usize::from(target)];
         (target, address & bits)
     }
 
@@ -78,14 +94,15 @@ impl Decoder {
             _ => {}
         }
     }
+}
 
-    fn upper(&self, latches: Latches) -> u8 {
-        let bits = match latches.kind {
-            1 => latches.first >> 6 & 2 | latches.first >> 1 & 1,
-            _ => latches.second << 1 & 2 | latches.first & 1,
-        };
-        self.upper[usize::from(latches.kind)][usize::from(bits)]
-    }
+/// The two latch bits by which the upper 16K lies.
+fn latch_bits(latches: Latches) -> usize {
+    let bits = match latches.kind {
+        1 => latches.first >> 6 & 2 | latches.first >> 1 & 1,
+        _ => latches.second << 1 & 2 | latches.first & 1,
+    };
+    usize::from(bits)
 }
 
 /// RAM and overlay RAM: the targets that the image holds.
@@ -94,12 +111,12 @@ pub(super) fn is_ram(target: u8) -> bool {
     (1 << RAM | 1 << OVERLAY_RAM) >> target & 1 != 0
 }
 
-fn map(upper: u8) -> [u8; 256] {
-    std::array::from_fn(|page| match page {
-        0x03 => INSIDE,
-        0xC0.. => upper,
-        _ => RAM,
-    })
+fn map([low, high]: Halves) -> [u8; 256] {
+    let mut pages = [RAM; 256];
+    pages[0x03] = INSIDE;
+    pages[0xC0..0xE0].fill(low);
+    pages[0xE0..].fill(high);
+    pages
 }
 
 fn no_controller() -> Page3 {
