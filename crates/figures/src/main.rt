@@ -1,5 +1,6 @@
 // The figures of document 01 that are run, the decode of every address, and digests of generated frames, a line each; then the same
-// of the 16K machine; then comparisons of frames, and slips of lines.
+// of the 16K machine; then comparisons of frames, slips of lines, and the card of line starts.
+mod card;
 mod comparing;
 mod decoding;
 mod generated;
@@ -25,4 +26,5 @@ fn main() {
     slipping::moves();
     slipping::widths();
     slipping::lengths();
+    card::halves();
 }

@@ -52,3 +52,26 @@ pub(crate) fn named_digest(name: &[u8], n: u64) {
     text(name);
     io::print_hex(STDOUT_FILENO, n, 16);
 }
+
+// Four hexadecimal digits in capitals, after a blank.
+pub(crate) fn address(n: u16) {
+    text(
+        &[
+            b' ',
+            hex_digit(n / 4096),
+            hex_digit(n / 256),
+            hex_digit(n / 16),
+            hex_digit(n),
+        ],
+    );
+}
+
+// The last digit of a number.
+fn hex_digit(n: u16) -> u8 {
+    let digit = (n % 16) as u8;
+    if digit < 10 {
+        b'0' + digit
+    } else {
+        b'A' + (digit - 10)
+    }
+}

@@ -8,7 +8,8 @@ use lib.ListN.{getD, length}
 use Rattle.machine.specs.Image.{Image, imageLength, folded, byteAt}
 use Rattle.machine.specs.Lists.{Each}
 use Rattle.machine.specs.Sizes.{cellLength, columns, lines}
-use Rattle.video.specs.Address.{videoBlock}
+use Rattle.video.specs.Address.{videoBlock, textStart, hiresStart}
+use Rattle.video.specs.Card.{card}
 use Rattle.video.specs.Cell.{Cell, pixels, screenAddresses, used}
 use Rattle.video.specs.Frame.{modeBefore, frameCells}
 use Rattle.video.specs.Line.{cellAt, lineCells}
@@ -36,6 +37,10 @@ Agree first second addresses = Each (λ (address : ℕ). byteAt first address �
 -- a number is a colour, 0 to 7
 abbrev pub Colour : ℕ → Type 0
 Colour pixel = pixel ≤ 7
+
+-- entry `line` of the card is the line's start in text, entry 224 + line its start in hires
+abbrev pub EntryOfCard : Type 0
+EntryOfCard = (line : ℕ) → line < lines → (getD card line 0 ≡ textStart line) × (getD card (lines + line) 0 ≡ hiresStart line)
 
 -- no region of the table crosses a border of 16K
 abbrev pub RegionsInOneBlock : Type 0

@@ -1,6 +1,7 @@
 pub mod State
 pub mod Ram
 pub mod Address
+pub mod Card
 pub mod Registers
 pub mod Pattern
 pub mod Cell

@@ -5,14 +5,17 @@ ghost use Rattle.machine.specs.Image.{IsImage};
 ghost use Rattle.machine.specs.Sizes.{columns, lines};
 ghost use Rattle.video.specs.Address.{isHires, isBitmap, screenAddress, characterAddress};
 ghost use Rattle.video.specs.Answer.{addressRefusal, addressAnswer};
+ghost use Rattle.video.specs.Card.{card};
 ghost use Rattle.video.specs.Internal.{blockOf, scanline};
 use crate::bits::bit;
 use crate::bits::both;
 use crate::bits::wide;
+use crate::card::CARD_LENGTH;
+use crate::card::line_starts;
 use crate::registers::Registers;
-use machine::COLUMNS;
 use machine::DONE;
 use machine::IMAGE_LENGTH_16K;
+use machine::LINES;
 use machine::choose_address;
 use machine::column_refusal;
 use machine::fold;
@@ -27,11 +30,7 @@ const BLOCK: usize = 0x8000;
 // The lines that can show a bitmap; those below them are text in every mode.
 const BITMAP_LINES: usize = 200;
 
-const BITMAP: usize = 0xA000 - BLOCK;
-
-const TEXT_SCREEN: usize = 0xBB80 - BLOCK;
-
-// A row of text, and so a character, is eight lines high.
+// A character is eight rows high.
 const ROW_LINES: usize = 8;
 
 const TEXT_CHARACTERS: usize = 0xB400 - BLOCK;
@@ -70,7 +69,8 @@ pub fn screen_address(profile: u8, line: usize, column: usize, mode: u8) -> Addr
     if status != DONE {
         return Address { status, address: 0 };
     }
-    let place = Scanline::new(line).screen_address(column, wide(mode));
+    let starts = line_starts();
+    let place = Scanline::new(&starts, line).screen_address(column, wide(mode));
     Address {
         status,
         address: (fold(profile, BLOCK) + place) as u16,
@@ -90,7 +90,7 @@ fn is_hires(mode: u64) -> bool
     bit(HIRES, mode)
 }
 
-// A line, and where its screen bytes begin in text and in hires.
+// A line, and where in the block its screen bytes begin in text and in hires.
 pub(crate) struct Scanline {
     pub number: usize,
     pub text: usize,
@@ -98,17 +98,17 @@ pub(crate) struct Scanline {
 }
 
 impl Scanline {
-    pub(crate) fn new(number: usize) -> Self
+    pub(crate) fn new(starts: &[u16; CARD_LENGTH], number: usize) -> Self
+        requires { ⌜ now starts ≡ card ⌝ }
         requires { ⌜ number < lines ⌝ }
         ensures { λ r. ⌜ r ≡ scanline number ⌝ }
     {
-        let text = TEXT_SCREEN + COLUMNS * (number / ROW_LINES);
-        let bitmap = BITMAP + COLUMNS * number;
-        let hires = choose_address(number < BITMAP_LINES, bitmap, text);
+        let text = starts[number] as usize;
+        let hires = starts[LINES + number] as usize;
         Self {
             number,
-            text,
-            hires,
+            text: text - BLOCK,
+            hires: hires - BLOCK,
         }
     }
 

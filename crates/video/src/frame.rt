@@ -7,12 +7,14 @@ ghost use Rattle.video.specs.Answer.{painted, frameAnswer, frameContents
 ghost use Rattle.video.specs.Cell.{pixels};
 ghost use Rattle.video.specs.Frame.{frameCells};
 ghost use Rattle.video.specs.State.{Within, withProfile, afterFrame};
+use crate::address::Scanline;
 use crate::address::video_block;
 use crate::answer::Painted;
 use crate::answer::answer;
 use crate::answer::painting_refusal;
 use crate::answer::refused;
 use crate::bits::wide;
+use crate::card::line_starts;
 use crate::line::fill_line;
 use crate::registers::Registers;
 use crate::state::State;
@@ -41,6 +43,7 @@ fn fill_frame(block: &[u8], state: State, frame: &mut [u8]) -> Painted
     ensures { λ r. ⌜ r ≡ painted (afterFrame state) (frameCells (now (block .entry)) (withProfile 1 state)) ⌝ }
     ensures { λ r. ⌜ now (frame .exit) ≡ pixels (frameCells (now (block .entry)) (withProfile 1 state)) ⌝ }
 {
+    let starts = line_starts();
     let mut registers = Registers::at_line_start(wide(state.mode));
     let mut screen: u64 = 0;
     let mut character: u64 = 0;
@@ -50,7 +53,7 @@ fn fill_frame(block: &[u8], state: State, frame: &mut [u8]) -> Painted
         let painted = fill_line(
             block,
             state.counter,
-            line,
+            Scanline::new(&starts, line),
             registers,
             &mut frame[from..from + LINE_LENGTH],
         );

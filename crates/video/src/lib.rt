@@ -2,6 +2,7 @@
 mod address;
 mod answer;
 mod bits;
+mod card;
 mod cell;
 mod frame;
 mod line;
@@ -12,6 +13,7 @@ mod state;
 pub use address::Address;
 pub use address::screen_address;
 pub use answer::Painted;
+pub use card::line_starts;
 pub use frame::paint_frame;
 pub use line::paint_line;
 pub use state::State;

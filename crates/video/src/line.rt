@@ -7,7 +7,7 @@ ghost use Rattle.machine.specs.Image.{IsImage};
 ghost use Rattle.machine.specs.Sizes.{columns, lines, lineLength};
 ghost use Rattle.video.specs.Answer.{lineAnswer, lineContents};
 ghost use Rattle.video.specs.Cell.{Cell, pixels};
-ghost use Rattle.video.specs.Internal.{blockRam, paintedLine};
+ghost use Rattle.video.specs.Internal.{blockRam, scanline, paintedLine};
 ghost use Rattle.video.specs.Line.{lineCells};
 use crate::address::Scanline;
 use crate::address::video_block;
@@ -16,6 +16,7 @@ use crate::answer::answer;
 use crate::answer::painting_refusal;
 use crate::answer::refused;
 use crate::bits::wide;
+use crate::card::line_starts;
 use crate::cell::paint_cell;
 use crate::registers::Registers;
 use crate::state::State;
@@ -44,7 +45,9 @@ pub fn paint_line(memory: &[u8], state: State, line: usize, output: &mut [u8]) -
     }
     let before = Registers::at_line_start(wide(state.mode));
     let block = video_block(memory, state.profile);
-    let painted = fill_line(block, state.counter, line, before, output);
+    let starts = line_starts();
+    let scanline = Scanline::new(&starts, line);
+    let painted = fill_line(block, state.counter, scanline, before, output);
     let registers = painted.registers;
     answer(state, registers.mode, painted.screen, painted.character)
 }
@@ -52,15 +55,16 @@ pub fn paint_line(memory: &[u8], state: State, line: usize, output: &mut [u8]) -
 pub(crate) fn fill_line(
     block: &[u8],
     counter: u8,
-    line: usize,
+    line: Scanline,
     before: Registers,
     output: &mut [u8],
 ) -> PaintedLine
     requires { ⌜ IsImage 1 (now block) ⌝ }
-    requires { ⌜ line < lines ⌝ }
+    requires { ⌜ line .number < lines ⌝ }
+    requires { ⌜ line ≡ scanline (line .number) ⌝ }
     requires { ⌜ length (now output) ≡ lineLength ⌝ }
-    ensures { λ r. ⌜ r ≡ paintedLine (blockRam (now (block .entry))) counter line (before .mode) ⌝ }
-    ensures { λ r. ⌜ now (output .exit) ≡ pixels (lineCells (blockRam (now (block .entry))) counter line (before .mode)) ⌝ }
+    ensures { λ r. ⌜ r ≡ paintedLine (blockRam (now (block .entry))) counter (line .number) (before .mode) ⌝ }
+    ensures { λ r. ⌜ now (output .exit) ≡ pixels (lineCells (blockRam (now (block .entry))) counter (line .number) (before .mode)) ⌝ }
 {
     let mut cells = [[0u8; 6]; 40];
     let painted = paint_cells(block, counter, line, before, &mut cells);
@@ -80,23 +84,23 @@ pub(crate) fn fill_line(
 fn paint_cells(
     block: &[u8],
     counter: u8,
-    line: usize,
+    line: Scanline,
     before: Registers,
     cells: &mut [[u8; 6]; 40],
 ) -> PaintedLine
     requires { ⌜ IsImage 1 (now block) ⌝ }
-    requires { ⌜ line < lines ⌝ }
+    requires { ⌜ line .number < lines ⌝ }
+    requires { ⌜ line ≡ scanline (line .number) ⌝ }
     requires { ⌜ length (now cells) ≡ columns ⌝ }
-    ensures { λ r. ⌜ r ≡ paintedLine (blockRam (now (block .entry))) counter line (before .mode) ⌝ }
-    ensures { λ r. ⌜ now (cells .exit) ≡ map (λ (c : Cell). c .colours) (lineCells (blockRam (now (block .entry))) counter line (before .mode)) ⌝ }
+    ensures { λ r. ⌜ r ≡ paintedLine (blockRam (now (block .entry))) counter (line .number) (before .mode) ⌝ }
+    ensures { λ r. ⌜ now (cells .exit) ≡ map (λ (c : Cell). c .colours) (lineCells (blockRam (now (block .entry))) counter (line .number) (before .mode)) ⌝ }
 {
-    let place = Scanline::new(line);
     let mut registers = before.line_reset();
     let mut screen: u64 = 0;
     let mut character: u64 = 0;
     let mut column: usize = 0;
     while column < COLUMNS {
-        let cell = paint_cell(block, counter, place, column, registers);
+        let cell = paint_cell(block, counter, line, column, registers);
         let colours = cell.colours;
         cells[column] = colours;
         registers = cell.registers;

@@ -71,8 +71,13 @@ const SEARCHED: [[usize; 2]; 2] = [
     [LINE_LENGTH, LINE_LENGTH + 1],
 ];
 
+/// A mode of each half of the card of line starts.
+const HALVES: [(&str, u8); 2] = [("text", 2), ("hires", 6)];
+/// Lines to a row of the card.
+const CARD_ROW: usize = 8;
+
 /// All lines, each ended by a line feed: limits, decodes and images of the 48K machine, then of the
-/// 16K machine, whose lines begin with the profile, then comparisons, then slips.
+/// 16K machine, whose lines begin with the profile, then comparisons, slips, and the card.
 pub fn lines() -> String {
     let (video, bus) = (Video::new(), Bus::new());
     let mut text = String::new();
@@ -120,6 +125,11 @@ pub fn lines() -> String {
     }
     for lengths in SEARCHED {
         text += &searched_lengths_line(lengths);
+    }
+    for half in HALVES {
+        for first in (0..LINES).step_by(CARD_ROW) {
+            text += &card_line(&video, half, first);
+        }
     }
     text
 }
@@ -291,6 +301,16 @@ fn found(reference: &[u8], grabbed: &[u8]) -> String {
         disagreements,
     } = slip::find_slip(reference, grabbed);
     format!("status {status} slip {slip} disagreements {disagreements}\n")
+}
+
+/// A row of the card: where lines begin, from this one on.
+fn card_line(model: &Video, (half, mode): (&str, u8), first: usize) -> String {
+    let start = |line| model.screen_address(PROFILE_48K, line, 0, mode).address;
+    let mut text = format!("card {half} {first}:");
+    for line in first..first + CARD_ROW {
+        write!(text, " {:04X}", start(line)).expect("a string takes all");
+    }
+    text + "\n"
 }
 
 /// The generator's numbers after this start.

@@ -28,18 +28,18 @@ flatten-next cells column h =
     simp (add-one, take-suc cells column [] h, flatten-append (take column cells) (getD cells column [] ∷ []), append-nil)
 
 abbrev Inv-loop2 : tie.InvT-loop2
-Inv-loop2 block counter line output₀ cells painted column from k₀ output k =
+Inv-loop2 block counter output₀ cells painted column from k₀ output k =
     (k ≤ cellLength) × (length output ≡ lineLength) × (take (from + k) output ≡ flatten (take column cells) ++ take k (getD cells column []))
 
 abbrev μ-loop2 : tie.MeasureT-loop2
-μ-loop2 block counter line output₀ cells painted column from k₀ output k = cellLength - k
+μ-loop2 block counter output₀ cells painted column from k₀ output k = cellLength - k
 
 abbrev Inv-loop : tie.InvT-loop
-Inv-loop block counter line output₀ cells painted column₀ output column =
+Inv-loop block counter output₀ cells painted column₀ output column =
     (column ≤ columns) × (length output ≡ lineLength) × (take (cellLength * column) output ≡ flatten (take column cells))
 
 abbrev μ-loop : tie.MeasureT-loop
-μ-loop block counter line output₀ cells painted column₀ output column = columns - column
+μ-loop block counter output₀ cells painted column₀ output column = columns - column
 
 -- the cells are forty times six colours
 module _ (k : tie.After-paint-cells Inv-loop2 μ-loop2 Inv-loop μ-loop) where
@@ -47,25 +47,25 @@ module _ (k : tie.After-paint-cells Inv-loop2 μ-loop2 Inv-loop μ-loop) where
   cellsOf = k .paint-cells .last .1 .1 .1 .1 .0
 
   abbrev lineOf : List Cell
-  lineOf = let a = k .before .before .before .before .args in lineCells (blockRam (now (a .block))) (a .counter) (a .line) (a .before .mode)
+  lineOf = let a = k .before .before .before .before .args in lineCells (blockRam (now (a .block))) (a .counter) (a .line .number) (a .before .mode)
 
   forty : length cellsOf ≡ columns
   forty =
       let a = k .before .before .before .before .args in
       ap length (k .paint-cells .ensures .1)
       ∙ length-map lineOf (λ (c : Cell). c .colours)
-      ∙ cells-length (blockRam (now (a .block))) (a .counter) (a .line) (a .before .mode) columns
+      ∙ cells-length (blockRam (now (a .block))) (a .counter) (a .line .number) (a .before .mode) columns
 
   six : (column : ℕ) → column < columns → Six (getD cellsOf column [])
   six column h =
       let a = k .before .before .before .before .args in
       let all : Each Six cellsOf =
-      rw (k .paint-cells .ensures .1) (line-sixes (blockRam (now (a .block))) (a .counter) (a .line) (a .before .mode)) in
+      rw (k .paint-cells .ensures .1) (line-sixes (blockRam (now (a .block))) (a .counter) (a .line .number) (a .before .mode)) in
       each-at Six cellsOf all column [] (omega (arith, forty))
 
 loop-holds : tie.Need-loop-holds Inv-loop2 μ-loop2 Inv-loop μ-loop
 unfolding flatten
-loop-holds c = (omega arith, c .before .before .before .before .pre .1 .1, refl)
+loop-holds c = (omega arith, c .before .before .before .before .pre .1 .1 .1, refl)
 
 loop2-holds : tie.Need-loop2-holds Inv-loop2 μ-loop2 Inv-loop μ-loop
 loop2-holds c =

@@ -17,51 +17,47 @@ use Rattle.video.proofs.line.paint_cells.Statement.{statement}
 use Rattle.video.proofs.line.paint_cells.Tie as tie
 
 abbrev Inv-loop : tie.InvT-loop
-Inv-loop block counter line cells₀ place registers₀ screen₀ character₀ column₀ cells registers screen character column =
-    Reached (blockRam block) counter line (registers₀ .mode) cells registers screen character column
+Inv-loop block counter line cells₀ registers₀ screen₀ character₀ column₀ cells registers screen character column =
+    Reached (blockRam block) counter (line .number) (registers₀ .mode) cells registers screen character column
 
 abbrev μ-loop : tie.MeasureT-loop
-μ-loop block counter line cells₀ place registers₀ screen₀ character₀ column₀ cells registers screen character column =
+μ-loop block counter line cells₀ registers₀ screen₀ character₀ column₀ cells registers screen character column =
     columns - column
 
-new-requires : tie.Need-new-requires Inv-loop μ-loop
-new-requires c κs = c .before .pre .1 .0
-
 -- the line begins in the mode that was carried to it
-same-mode : (k : tie.After-line-reset Inv-loop μ-loop) → k .line-reset .result .mode ≡ k .before .before .before .args .before .mode
+same-mode : (k : tie.After-line-reset Inv-loop μ-loop) → k .line-reset .result .mode ≡ k .before .before .args .before .mode
 same-mode k = ap (λ (r : Registers). r .mode) (k .line-reset .ensures)
 
 loop-holds : tie.Need-loop-holds Inv-loop μ-loop
 loop-holds c =
-    let start = c .before .before .before in
-    none _ _ _ _ (now (start .args .cells)) (c .line-reset .result) (start .pre .1 .1) (c .line-reset .ensures ∙ ap lineReset (sym (same-mode c)))
+    let start = c .before .before in
+    none _ _ _ _ (now (start .args .cells)) (c .line-reset .result) (start .pre .1 .1 .1) (c .line-reset .ensures ∙ ap lineReset (sym (same-mode c)))
 
 paint-cell-requires : tie.Need-paint-cell-requires Inv-loop μ-loop
 paint-cell-requires c κs =
     let reset = c .before .before in
-    let start = reset .before .before .before in
-    let known = registers-coloured (blockRam (now (start .args .block))) (start .args .line) (reset .line-reset .result .mode) (c .before .loop .column) in
-    rw (reset .before .new .ensures)
-    (start .pre .0, ((start .pre .1 .0, omega arith), (refl, rw (c .before .loop .inv .path) (known .ink, known .paper))))
+    let start = reset .before .before in
+    let known = registers-coloured (blockRam (now (start .args .block))) (start .args .line .number) (reset .line-reset .result .mode) (c .before .loop .column) in
+    (start .pre .0, ((start .pre .1 .0, omega arith), (start .pre .1 .1 .0, rw (c .before .loop .inv .path) (known .ink, known .paper))))
 
 loop-again : tie.Need-loop-again Inv-loop μ-loop
 loop-again c =
     let here = c .before .before .before .before .before .loop in
     let cell = c .before .before .before .paint-cell in
-    next _ _ _ _ _ _ _ _ _ (here .inv) (omega arith) (cell .result) (rw (c .before .before .before .before .before .before .before .new .ensures) at (cell .ensures))
+    next _ _ _ _ _ _ _ _ _ (here .inv) (omega arith) (cell .result) (cell .ensures)
 
 add-character : tie.Need-add-character Inv-loop μ-loop
 add-character c =
     let reset = c .before .before .before .before .before .before in
-    let a = reset .before .before .before .args in
+    let a = reset .before .before .args in
     let column = c .before .before .before .before .before .loop .column in
     let mode = reset .line-reset .result .mode in
     let ram = blockRam (now (a .block)) in
     omega (
       arith,
       loop-again c .characters,
-      characters-most (firstCells ram (a .counter) (a .line) mode (column + 1)),
-      cells-length ram (a .counter) (a .line) mode (column + 1),
+      characters-most (firstCells ram (a .counter) (a .line .number) mode (column + 1)),
+      cells-length ram (a .counter) (a .line .number) mode (column + 1),
     )
 
 returns : tie.Need-returns Inv-loop μ-loop
@@ -76,7 +72,6 @@ paint-cells-spec =
     (tie.spec
     Inv-loop
     μ-loop
-    new-requires
     (λ c κs. tt)
     loop-holds
     paint-cell-requires

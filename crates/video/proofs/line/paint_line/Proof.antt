@@ -3,7 +3,7 @@
 -- Assumes nothing.
 use Prim.Native.Nat.{ℕ, _<_}
 use mathlib.Core.List.{List}
-use mathlib.Core.Path.{_≡_, sym, ap, ap₂, _∙_}
+use mathlib.Core.Path.{_≡_, refl, sym, ap, ap₂, _∙_}
 use native.Mathlib.Omega.{arith}
 use lib.ListN.{length}
 use denote.Ref.{now}
@@ -22,6 +22,7 @@ use Rattle.video.proofs.Answers.{painting-refused, painting-done}
 use Rattle.video.proofs.Block.{block-sized, line-of-block}
 use Rattle.video.proofs.Lines.{cells-length, mode-after, mode-small, line-uses-screen-bytes}
 use Rattle.video.proofs.Readings.{characters-most}
+use Rattle.video.specs.declared.address.Scanline.{Scanline}
 use Rattle.video.specs.declared.registers.Registers.{Registers}
 use Rattle.video.proofs.line.paint_line.Statement.{statement}
 use Rattle.video.proofs.line.paint_line.Tie as tie
@@ -68,17 +69,20 @@ past k = k .before .before .before
 video-block-requires : tie.Need-video-block-requires
 video-block-requires c κs = paintable (c .before .before) .image
 
+new-requires : tie.Need-new-requires
+new-requires c κs = (c .before .line-starts .ensures, fits (past (c .before .before)))
+
 fill-line-requires : tie.Need-fill-line-requires
 fill-line-requires c κs =
-    let k = c .before in
+    let k = c .before .before .before .before in
     let a = start (past k) .args in
     let known = paintable (past k) in
-    (rw (k .video-block .ensures) (block-sized (a .state .profile) (now (a .memory)) (known .image)), (fits (past k), known .lent))
+    let sized = block-sized (a .state .profile) (now (a .memory)) (known .image) in
+    rw (c .before .new .ensures) (rw (k .video-block .ensures) sized, (fits (past k), (refl, known .lent)))
 
--- the line begins in the state's mode
 module _ (f : tie.After-fill-line) where
   abbrev lent : tie.After-video-block
-  lent = f .before .before
+  lent = f .before .before .before .before .before
 
   abbrev entry : tie.Start
   entry = start (past lent)
@@ -86,14 +90,19 @@ module _ (f : tie.After-fill-line) where
   abbrev ram : Ram
   ram = let a = entry .args in blockRam (blockOf (a .state .profile) (now (a .memory)))
 
-  carried : lent .before .at-line-start .result .mode ≡ entry .args .state .mode
-  carried = ap (λ (r : Registers). r .mode) (lent .before .at-line-start .ensures) ∙ lent .before .before .wide .ensures
+  -- what is shown of the block that was lent, of the record's line and of the mode that the line begins in
+  carried : {A : Type 0} (shown : Image → ℕ → ℕ → A)
+      → let a = entry .args in
+      shown (now (lent .video-block .result)) (f .before .before .new .result .number) (lent .before .at-line-start .result .mode)
+      ≡ shown (blockOf (a .state .profile) (now (a .memory))) (a .line) (a .state .mode)
+  carried shown =
+      let mode = ap (λ (r : Registers). r .mode) (lent .before .at-line-start .ensures) ∙ lent .before .before .wide .ensures in
+      ap (λ (image : Image). shown image (f .before .before .new .result .number) (lent .before .at-line-start .result .mode)) (lent .video-block .ensures)
+      ∙ ap₂ (λ (line : Scanline) (m : ℕ). shown (blockOf (entry .args .state .profile) (now (entry .args .memory))) (line .number) m) (f .before .before .new .ensures) mode
 
   painted-is : let a = entry .args in f .fill-line .result ≡ paintedLine ram (a .state .counter) (a .line) (a .state .mode)
   painted-is =
-      let a = entry .args in
-      f .fill-line .ensures .0
-      ∙ ap₂ (λ (image : Image) (m : ℕ). paintedLine (blockRam image) (a .state .counter) (a .line) m) (lent .video-block .ensures) carried
+      f .fill-line .ensures .0 ∙ carried (λ (image : Image) (line mode : ℕ). paintedLine (blockRam image) (entry .args .state .counter) line mode)
 
   abbrev read : List Cell
   read = let a = entry .args in lineCells ram (a .state .counter) (a .line) (a .state .mode)
@@ -116,7 +125,7 @@ returns-2 c =
     let same = line-of-block (now (a .memory)) (a .state) (paintable (past k) .image) (a .line) (fits (past k)) in (
       c .answer .ensures ∙ rw (painted-is f) (rw (← mode-after (ram f) (a .state .counter) (a .line) (a .state .mode) columns) (same .0 ∙ left .0)),
       f .fill-line .ensures .1
-          ∙ ap₂ (λ (image : Image) (m : ℕ). pixels (lineCells (blockRam image) (a .state .counter) (a .line) m)) (k .video-block .ensures) (carried f)
+          ∙ carried f (λ (image : Image) (line mode : ℕ). pixels (lineCells (blockRam image) (a .state .counter) line mode))
           ∙ same .1 ∙ left .1,
     )
 
@@ -131,6 +140,8 @@ paint-line-spec =
     (λ c κs. tt)
     (λ c κs. tt)
     video-block-requires
+    (λ c κs. tt)
+    new-requires
     fill-line-requires
     answer-requires
     (λ c. search needs)

@@ -1,28 +1,66 @@
--- `video::address::Scanline::new` meets its contract: the choice is the rules', and each start is counted from the block's.
+-- `video::address::Scanline::new` meets its contract: the card has both starts, and each is counted from the block's.
 -- Assumes nothing.
-use Prim.Native.Nat.{ℕ, _+_, _-_, _*_, _/_}
+use Prim.Native.Nat.{ℕ, _+_, _-_}
 use mathlib.Core.Bool.{cond}
-use mathlib.Core.Path.{_≡_, ap₂, _∙_}
+use mathlib.Core.List.{List}
+use mathlib.Core.Path.{_≡_, ap, ap₂, _∙_}
 use native.Mathlib.Omega.{arith}
-use lib.Dec.{ltb}
+use lib.ListN.{getD}
+use denote.Ref.{now}
 use borrow.Author.Needs.{needs}
-use Rattle.machine.specs.Sizes.{columns}
-use Rattle.video.specs.Address.{videoBlock, bitmapLines, textStart}
-use Rattle.video.proofs.Choice.{cond-map}
+use Rattle.machine.specs.Sizes.{lines}
+use Rattle.video.specs.Address.{videoBlock, isHires, textStart, hiresStart}
+use Rattle.video.specs.Card.{card}
+use Rattle.video.proofs.Addresses.{InBlock, screen-in-block}
+use Rattle.video.proofs.Entries.{entry-of-card}
 use Rattle.video.proofs.address.Scanline.new.Statement.{statement}
 use Rattle.video.proofs.address.Scanline.new.Tie as tie
 
+-- the card has an entry for every line in hires too
+element-copy-out-hires : tie.Need-element-copy-out-hires
+element-copy-out-hires c = search needs
+
+module _ (start : tie.Start) where
+  abbrev line : ℕ
+  line = start .args .number
+
+  -- the card's entry at a place
+  abbrev entry : ℕ → ℕ
+  entry place = getD (now (start .args .starts)) place 0
+
+  starts-are : (entry line ≡ textStart line) × (entry (lines + line) ≡ hiresStart line)
+  starts-are =
+      let of-card = entry-of-card line (start .pre .1) in
+      let same : (place : ℕ) → entry place ≡ getD card place 0 = λ place. ap (λ (l : List ℕ). getD l place 0) (start .pre .0) in
+      (same line ∙ of-card .0, same (lines + line) ∙ of-card .1)
+
+  -- both lie in the block: 0 is a mode of text, 4 one of hires
+  in-block : (mode : ℕ) → InBlock (cond (isHires mode) (entry (lines + line)) (entry line))
+  in-block mode = rw (starts-are .0, starts-are .1) (omega (arith, screen-in-block 0 line 0 mode (start .pre .1) (omega arith)))
+
+cast-text : tie.Need-cast-text
+cast-text c = record { fits = omega (arith, in-block (c .before) 0) }
+
+cast-hires : tie.Need-cast-hires
+cast-hires c = record { fits = omega (arith, in-block (c .before .before) 4) }
+
 returns : tie.Need-returns
 returns c =
-    let line = c .before .args .number in
-    let bitmap = 0xA000 + columns * line in
-    let from-text : 0x3B80 + columns * (line / 8) ≡ textStart line - videoBlock = omega arith in
-    let from-bitmap : 0x2000 + columns * line ≡ bitmap - videoBlock = omega arith in
-    ap₂ (λ (text hires : ℕ). record { number = line; text = text; hires = hires }) from-text
-    (c .choose-address .ensures .0
-    ∙ ap₂ (cond (ltb line bitmapLines)) from-bitmap from-text
-    ∙ cond-map (λ (n : ℕ). n - videoBlock) (ltb line bitmapLines) bitmap (textStart line))
+    let start = c .before .before in
+    let are = starts-are start in
+    ap₂ (λ (text hires : ℕ). record { number = line start; text = text - videoBlock; hires = hires - videoBlock }) (are .0) (are .1)
 
 pub new-spec : {M : Type 1} → statement M
 new-spec =
-    tie.close (tie.spec (λ c. search needs) (λ c. search needs) (λ c. search needs) (λ c. search needs) (λ c κs. tt) returns)
+    tie.close
+    (tie.spec
+    (λ c. search needs)
+    (λ c. search needs)
+    cast-text
+    (λ c. search needs)
+    (λ c. search needs)
+    element-copy-out-hires
+    cast-hires
+    (λ c. in-block (c .before .before) 0 .0)
+    (λ c. in-block (c .before .before) 4 .0)
+    returns)
