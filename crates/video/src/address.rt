@@ -31,7 +31,7 @@ const BLOCK: usize = 0x8000;
 const BITMAP_LINES: usize = 200;
 
 // A character is eight rows high.
-const ROW_LINES: usize = 8;
+const CHARACTER_ROWS: usize = 8;
 
 const TEXT_CHARACTERS: usize = 0xB400 - BLOCK;
 
@@ -135,7 +135,7 @@ impl Scanline {
         let set = choose_address(is_hires(registers.mode), HIRES_CHARACTERS, TEXT_CHARACTERS);
         let alternate = choose_address(bit(ALTERNATE, registers.style), ALTERNATE_CHARACTERS, 0);
         let double = bit(DOUBLE_HEIGHT, registers.style);
-        let row = choose_address(double, number / 2 % ROW_LINES, number % ROW_LINES);
-        set + alternate + ROW_LINES * code + row
+        let row = choose_address(double, number / 2 % CHARACTER_ROWS, number % CHARACTER_ROWS);
+        set + alternate + CHARACTER_ROWS * code + row
     }
 }

@@ -5,7 +5,7 @@ use machine::LINES;
 
 pub(crate) const CARD_LENGTH: usize = 2 * LINES;
 
-// Eight lines to a row, as the card is printed.
+// As the card is printed, eight lines to a row; a row is named by its half and its first line.
 #[rattlefmt::skip]
 const CARD: [u16; CARD_LENGTH] = [
     0xBB80, 0xBB80, 0xBB80, 0xBB80, 0xBB80, 0xBB80, 0xBB80, 0xBB80, // text 0

@@ -90,7 +90,7 @@ module _ (f : tie.After-fill-line) where
   abbrev ram : Ram
   ram = let a = entry .args in blockRam (blockOf (a .state .profile) (now (a .memory)))
 
-  -- what is shown of the block that was lent, of the record's line and of the mode that the line begins in
+  -- the line is painted from the memory's block, by the record of its number, in the state's mode
   carried : {A : Type 0} (shown : Image → ℕ → ℕ → A)
       → let a = entry .args in
       shown (now (lent .video-block .result)) (f .before .before .new .result .number) (lent .before .at-line-start .result .mode)
