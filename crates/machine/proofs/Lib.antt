@@ -4,3 +4,4 @@ pub mod Each
 pub mod Folding
 pub mod Lists
 pub mod Refusals
+pub mod Tables

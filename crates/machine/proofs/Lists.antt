@@ -53,6 +53,16 @@ module _ {A : Type 0} (f : ℕ → List A) (size : ℕ) (sized : (k : ℕ) → l
       ∙ gather-at n i j d less hj)
       (eq-or-lt-of-le (omega arith))
 
+-- pieces of one element each
+module _ {A : Type 0} (f : ℕ → A) where
+  pub singles-length : (n : ℕ) → length (gather (λ (k : ℕ). f k ∷ []) n) ≡ n
+  singles-length n = gather-length (λ (k : ℕ). f k ∷ []) 1 (λ k. refl) n ∙ omega arith
+
+  pub singles-at : (n k : ℕ) (d : A) → k < n → getD (gather (λ (k : ℕ). f k ∷ []) n) k d ≡ f k
+  singles-at n k d h =
+      let place : k ≡ 1 * k + 0 = omega arith in
+      ap (λ (i : ℕ). getD (gather (λ (k : ℕ). f k ∷ []) n) i d) place ∙ gather-at (λ (k : ℕ). f k ∷ []) 1 (λ k. refl) n k 0 d h (omega arith)
+
 -- joined lists of one size
 pub flatten-length : {A : Type 0} (size : ℕ) (xs : List (List A)) → Each (λ (x : List A). length x ≡ size) xs
     → length (flatten xs) ≡ size * length xs

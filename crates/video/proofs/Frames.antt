@@ -2,18 +2,18 @@
 -- Assumes nothing.
 use Prim.Native.Nat.{ℕ, zero, suc, _+_, _*_, _<_, _≤_}
 use mathlib.Core.Bool.{Bool, true, false}
-use mathlib.Core.List.{[], _∷_, _++_}
+use mathlib.Core.List.{_++_}
 use mathlib.Core.Path.{_≡_, refl, ap, _∙_}
 use native.Mathlib.Numerals.{add-one}
 use native.Mathlib.Omega.{arith}
 use lib.Dec.{eqb, leb·zero}
-use lib.ListN.{getD, length}
+use lib.ListN.{length}
 use borrow.Author.Tests.{eqb-false}
 use Rattle.machine.specs.Image.{Image}
 use Rattle.machine.specs.Lists.{gather, Each}
 use Rattle.machine.specs.Sizes.{columns, lines, lastMode, lastCount}
 use Rattle.machine.proofs.Each.{each-gather}
-use Rattle.machine.proofs.Lists.{gather-next, gather-length, gather-at}
+use Rattle.machine.proofs.Lists.{gather-next, gather-length, gather-at, singles-at}
 use Rattle.video.specs.Cell.{Cell, cell, characterAddresses, modeLeft}
 use Rattle.video.specs.Frame.{modeAfterLines, modeBefore, lineOf, firstLines, frameCells}
 use Rattle.video.specs.Laws.{FrameUsesScreenBytes, StatesStayWithin, CellOfFrame}
@@ -88,10 +88,8 @@ unfolding firstLines firstCells
 cell-of-frame image state line column other hl hc =
     let ram = ramOf image state in
     let cells = lineOf ram (state .counter) (state .mode) in
-    let place : column ≡ 1 * column + 0 = omega arith in
     gather-at cells columns (line-length ram (state .counter) (state .mode)) lines line column other hl hc
-    ∙ ap (λ (i : ℕ). getD (cells line) i other) place
-    ∙ gather-at (λ (k : ℕ). cellAt ram (state .counter) line (modeBefore ram (state .mode) line) k ∷ []) 1 (λ k. refl) columns column 0 other hc (omega arith)
+    ∙ singles-at (cellAt ram (state .counter) line (modeBefore ram (state .mode) line)) columns column other hc
 
 -- what holds of the cell at each line and column holds of each cell of the frame
 pub each-of-frame : (P : Cell → Type 0) (image : Image) (state : State)

@@ -9,7 +9,7 @@ use lib.ListN.{length, length-map}
 use Rattle.machine.specs.Lists.{gather, Each}
 use Rattle.machine.specs.Sizes.{cellLength, columns, lineLength, lastMode}
 use Rattle.machine.proofs.Each.{each-none, each-cons, each-gather, each-map}
-use Rattle.machine.proofs.Lists.{gather-next, gather-length, flatten-length}
+use Rattle.machine.proofs.Lists.{gather-next, singles-length, flatten-length}
 use Rattle.video.specs.Cell.{Cell, cell, pixels, modeLeft}
 use Rattle.video.specs.Laws.{LineUsesScreenBytes}
 use Rattle.video.specs.Line.{registersBefore, cellAt, firstCells, lineCells}
@@ -32,7 +32,7 @@ module _ (ram : Ram) (counter line mode : ℕ) where
 
   pub cells-length : (n : ℕ) → length (firstCells ram counter line mode n) ≡ n
   unfolding firstCells
-  cells-length n = gather-length cellsAt 1 (λ k. refl) n ∙ omega arith
+  cells-length n = singles-length (cellAt ram counter line mode) n
 
   -- a cell leaves the registers before the next
   pub registers-next : (n : ℕ) → registersBefore ram line mode (n + 1) ≡ cellAt ram counter line mode n .registers

@@ -1,4 +1,4 @@
--- What holds of every line and every frame, stated over the rules alone; the proofs are in proofs/.
+-- What holds of every line, every frame and the card, stated over the rules alone; the proofs are in proofs/.
 -- Assumes nothing.
 use Prim.Native.Nat.{ℕ, _+_, _*_, _≤_, _<_}
 use mathlib.Core.List.{List, [], _∷_, map, Option·toList}
