@@ -1,4 +1,5 @@
 pub mod Below
+pub mod Bits
 pub mod Choice
 pub mod Each
 pub mod Folding

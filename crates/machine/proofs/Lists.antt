@@ -1,16 +1,20 @@
--- Laws of lists that are joined piece by piece, and of a list of which one piece is lent and comes back filled.
+-- Laws of lists that are joined piece by piece, of what is in a list, and of a list of which one piece is lent and comes back filled.
 -- Assumes nothing.
 use Prim.Native.Nat.{ℕ, zero, suc, _+_, _-_, _*_, _≤_, _<_}
+use mathlib.Core.Bool.{Bool, false, _||_, or-assoc}
 use mathlib.Core.List.{List, [], _∷_, _++_, append-assoc, map, map-append, flatMap, flatten}
 use mathlib.Core.Logic.{⊎-elim}
 use mathlib.Core.Path.{_≡_, refl, sym, ap, ap₂, _∙_}
 use native.Mathlib.Nat.{mul-suc, mul-le-mul-left, add-sub-cancel-left, eq-or-lt-of-le}
 use native.Mathlib.Numerals.{add-one}
 use native.Mathlib.Omega.{arith}
+use lib.Dec.{eqb}
 use lib.ListN.{length, getD, take, drop, length-append, length-drop, List·getD-append}
-use lib.Seq.{take-at, length-take-le, getD-append-add}
-use borrow.Rule.Slice.PartMut.{putMid, same-len-mid}
-use Rattle.machine.specs.Lists.{gather, Each}
+use lib.Seq.{take-at, length-take-le, getD-append-add, getD-take, getD-drop}
+use borrow.Rule.Slice.PartMut.{putMid, same-len-mid, take-put, drop-put}
+use borrow.Author.Tests.{ne-eqb}
+use Rattle.machine.specs.Lists.{gather, Each, isIn}
+use Rattle.machine.proofs.Choice.{eqb-same}
 use Rattle.machine.proofs.Each.{each-head, each-tail}
 
 -- one piece more
@@ -105,6 +109,23 @@ unfolding flatten
 flatten-append [] ys = refl
 flatten-append (x ∷ xs) ys = ap (λ (l : _). x ++ l) (flatten-append xs ys) ∙ sym (append-assoc x (flatten xs) (flatten ys))
 
+-- what is in a list: in joined lists, in one from which it is apart, and where all numbers are more by one number
+pub in-append : (n : ℕ) (xs ys : List ℕ) → isIn n (xs ++ ys) ≡ (isIn n xs || isIn n ys)
+unfolding isIn
+in-append n [] ys = refl
+in-append n (x ∷ xs) ys = ap (λ (b : Bool). eqb n x || b) (in-append n xs ys) ∙ sym (or-assoc (eqb n x) (isIn n xs) (isIn n ys))
+
+pub in-none : (n : ℕ) (xs : List ℕ) → Each (λ (x : ℕ). n ≡ x → ⊥) xs → isIn n xs ≡ false
+unfolding isIn
+in-none n [] apart = refl
+in-none n (x ∷ xs) apart =
+    ap₂ _||_ (ne-eqb n x (each-head (λ (x : ℕ). n ≡ x → ⊥) x xs apart)) (in-none n xs (each-tail (λ (x : ℕ). n ≡ x → ⊥) x xs apart))
+
+pub in-moved : (base n : ℕ) (xs : List ℕ) → isIn (base + n) (map (λ (x : ℕ). base + x) xs) ≡ isIn n xs
+unfolding isIn
+in-moved base n [] = refl
+in-moved base n (x ∷ xs) = ap₂ _||_ (eqb-same (base + n) (base + x) n x (λ e. omega arith) (λ e. omega arith)) (in-moved base n xs)
+
 -- the k-th piece of n elements of a list is lent: what it is, and what the list is when it is back as ys
 module _ {A : Type 0} (n k : ℕ) (xs : List A) (fits : n * k + n ≤ length xs) where
   pub piece-size : length (take (n * k + n - n * k) (drop (n * k) xs)) ≡ n
@@ -119,3 +140,27 @@ module _ {A : Type 0} (n k : ℕ) (xs : List A) (fits : n * k + n ≤ length xs)
       rw (add-one k, mul-suc n k, ← append-assoc (take (n * k) xs) ys (drop (n * k + n - n * k) (drop (n * k) xs)))
       (take-at (take (n * k) xs ++ ys) _ (n * k + n)
       (length-append (take (n * k) xs) ys ∙ omega (arith, length-take-le (n * k) xs (omega arith))))
+
+-- n elements from a on are lent: what the list has before them, in their place and after them when they are back as ys
+module _ {A : Type 0} (a n : ℕ) (xs ys : List A) (fits : a + n ≤ length xs) (size : length ys ≡ n) (d : A) where
+  abbrev back : List A
+  back = putMid a (a + n - a) xs ys
+
+  pub put-before : (k : ℕ) → k < a → getD back k d ≡ getD xs k d
+  put-before k h =
+      sym (getD-take a back k d h) ∙ ap (λ (l : List A). getD l k d) (take-put a (a + n - a) xs ys (omega arith)) ∙ getD-take a xs k d h
+
+  pub put-inside : (k : ℕ) → k < n → getD back (a + k) d ≡ getD ys k d
+  put-inside k h =
+      let before : length (take a xs) ≡ a = length-take-le a xs (omega arith) in
+      ap (λ (m : ℕ). getD back (m + k) d) (sym before)
+      ∙ getD-append-add (take a xs) _ k d
+      ∙ List·getD-append ys _ d k (omega arith)
+
+  pub put-after : (k : ℕ) → a + n ≤ k → getD back k d ≡ getD xs k d
+  put-after k h =
+      let place : a + n + (k - (a + n)) ≡ k = omega arith in
+      rw (← place)
+      (sym (getD-drop (a + n) back (k - (a + n)) d)
+      ∙ ap (λ (l : List A). getD l (k - (a + n)) d) (drop-put a (a + n) xs ys (omega arith) fits (omega arith))
+      ∙ getD-drop (a + n) xs (k - (a + n)) d)

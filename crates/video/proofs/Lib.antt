@@ -9,6 +9,7 @@ pub mod Entries
 pub mod Folded
 pub mod Frames
 pub mod Lines
+pub mod Marks
 pub mod Places
 pub mod Readings
 pub mod Words

@@ -1,15 +1,17 @@
 -- What only the contracts of functions inside the crate cite; no promise to others rests on this page.
 -- Assumes nothing.
-use Prim.Native.Nat.{ℕ, zero, suc, _+_, _-_, _*_, _/_, _%_}
-use mathlib.Core.Bool.{cond}
+use Prim.Native.Nat.{ℕ, zero, suc, _+_, _-_, _*_, _/_, _%_, _^_}
+use mathlib.Core.Bool.{cond, _||_}
 use mathlib.Core.List.{List, [], _∷_, _++_, map, Option·toList}
+use lib.Dec.{eqb}
 use lib.ListN.{length, take, drop}
-use Rattle.machine.specs.Bits.{bit}
+use Rattle.machine.specs.Bits.{bit, ofBits}
 use Rattle.machine.specs.Image.{Image, blockLength, folded}
 use Rattle.machine.specs.Sizes.{columns}
 use Rattle.video.specs.Address.{videoBlock, textStart, hiresStart}
 use Rattle.video.specs.Cell.{Cell, screenAddresses, characterAddresses}
 use Rattle.video.specs.Line.{registersBefore, lineCells}
+use Rattle.video.specs.Map.{byteBits}
 use Rattle.video.specs.Pattern.{patternWeights, patternColours, complemented}
 use Rattle.video.specs.Ram.{Ram}
 use Rattle.video.specs.Registers.{shownInk}
@@ -79,3 +81,7 @@ pixelBytes word = let bytes = lowBytes 7 word in take 4 bytes ++ drop 5 bytes
 -- the word of a pattern: a byte of 1 for each pixel that is set, the leftmost pixel lowest
 abbrev pub spreadWord : ℕ → ℕ
 spreadWord pattern = wordOf (gapped (map (λ (weight : ℕ). cond (bit weight pattern) 1 0) patternWeights))
+
+-- a byte with one of its bits set
+abbrev pub withBit : ℕ → ℕ → ℕ
+withBit byte number = ofBits (λ (b : ℕ). bit (2 ^ b) byte || eqb b number) byteBits

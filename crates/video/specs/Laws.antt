@@ -1,18 +1,20 @@
--- What holds of every line, every frame and the card, stated over the rules alone; the proofs are in proofs/.
+-- What holds of every line, every frame, the card and every map, stated over the rules alone; the proofs are in proofs/.
 -- Assumes nothing.
 use Prim.Native.Nat.{ℕ, _+_, _*_, _≤_, _<_}
-use mathlib.Core.List.{List, [], _∷_, map, Option·toList}
+use mathlib.Core.Bool.{_||_}
+use mathlib.Core.List.{List, [], _∷_, _++_, map, Option·toList}
 use mathlib.Core.Option.{Option, Option·map}
 use mathlib.Core.Path.{_≡_}
 use lib.ListN.{getD, length}
 use Rattle.machine.specs.Image.{Image, imageLength, folded, byteAt}
-use Rattle.machine.specs.Lists.{Each}
+use Rattle.machine.specs.Lists.{Each, isIn}
 use Rattle.machine.specs.Sizes.{cellLength, columns, lines}
 use Rattle.video.specs.Address.{videoBlock, textStart, hiresStart}
 use Rattle.video.specs.Card.{card}
 use Rattle.video.specs.Cell.{Cell, pixels, screenAddresses, used}
 use Rattle.video.specs.Frame.{modeBefore, frameCells}
 use Rattle.video.specs.Line.{cellAt, lineCells}
+use Rattle.video.specs.Map.{byteBits, isMarked, marked}
 use Rattle.video.specs.Answer.{painted}
 use Rattle.video.specs.Ram.{Ram, ramOf}
 use Rattle.video.specs.Region.{Region, In, InOneBlock, foldedRegion, screenRegion, definitionRegion}
@@ -152,3 +154,13 @@ FoldedFrameShowsSame =
     → let folding = frameCells small (withProfile 1 state) in
     let plain = frameCells large state in
     (pixels folding ≡ pixels plain) × (used folding ≡ map (folded 1) (used plain)) × (painted state folding ≡ painted state plain)
+
+-- after a marking the bit of an address is set exactly where it was set before or the address is one of those marked
+abbrev pub MarkedExactly : Type 0
+MarkedExactly =
+    (map addresses : List ℕ) (address : ℕ) → address < byteBits * length map
+    → isMarked (marked map addresses) address ≡ (isMarked map address || isIn address addresses)
+
+-- one marking after another is a marking of all their addresses
+abbrev pub MarksJoin : Type 0
+MarksJoin = (map first second : List ℕ) → marked (marked map first) second ≡ marked map (first ++ second)

@@ -7,6 +7,7 @@ pub mod Pattern
 pub mod Cell
 pub mod Line
 pub mod Frame
+pub mod Map
 pub mod Answer
 pub mod Region
 pub mod Laws
