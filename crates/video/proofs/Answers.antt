@@ -4,8 +4,9 @@ use Prim.Native.Nat.{ℕ}
 use mathlib.Core.List.{List}
 use mathlib.Core.Path.{_≡_, sym, ap, _∙_}
 use Rattle.machine.proofs.Refusals.{done, refused}
-use Rattle.video.specs.Answer.{painted, unpainted, paintedBy, filledBy}
-use Rattle.video.specs.Cell.{Cell, pixels}
+use Rattle.video.specs.Answer.{painted, unpainted, paintedBy, filledBy, mappedBy}
+use Rattle.video.specs.Cell.{Cell, pixels, used}
+use Rattle.video.specs.Map.{marked}
 use Rattle.video.specs.declared.state.State.{State}
 
 module _ (number : ℕ) (state after : State) (cells : List Cell) (lent : List ℕ) where
@@ -18,3 +19,11 @@ module _ (number : ℕ) (state after : State) (cells : List Cell) (lent : List �
   pub painting-done : number ≡ 0
       → (painted after cells ≡ paintedBy number state after cells) × (pixels cells ≡ filledBy number cells lent)
   painting-done ok = (sym (done _ _ _ ok), sym (done _ _ _ ok))
+
+-- and a map
+module _ (number : ℕ) (cells : List Cell) (map : List ℕ) where
+  pub mapping-refused : (status : ℕ) → status ≡ number → (status ≡ 0 → ⊥) → map ≡ mappedBy number cells map
+  mapping-refused status is bad = sym (refused _ _ _ (λ e. bad (is ∙ e)))
+
+  pub mapping-done : number ≡ 0 → marked map (used cells) ≡ mappedBy number cells map
+  mapping-done ok = sym (done _ _ _ ok)

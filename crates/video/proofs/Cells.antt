@@ -3,7 +3,7 @@
 use Prim.Native.Nat.{ℕ, _%_, _≤_}
 use mathlib.Core.Bool.{Bool, true, false, cond}
 use mathlib.Core.List.{List, map, Option·toList}
-use mathlib.Core.Option.{none, some}
+use mathlib.Core.Option.{none, some, Option·getD}
 use mathlib.Core.Path.{_≡_, refl, ap}
 use native.Mathlib.Omega.{arith}
 use lib.Dec.{ltb}
@@ -58,10 +58,14 @@ module _ (ram : Ram) (counter line column : ℕ) (before : Registers) where
   abbrev byte : ℕ
   byte = screenByte ram line column (before .mode)
 
+  abbrev screen : ℕ
+  screen = screenAddress (ram .profile) line column (before .mode)
+
   -- an attribute shows pattern 0 with the registers that it leaves
   pub attribute-painted : isAttribute byte ≡ true
       → let after = latched before byte in
-      _≡_ {A = PaintedCell} (record { registers = after; colours = shown after counter byte 0; character = 0 })
+      _≡_ {A = PaintedCell}
+      (record { registers = after; colours = shown after counter byte 0; screen = screen; character = 0; pattern = screen })
       (paintedCell (cell ram counter line column before))
   unfolding cell coloursOf registersAfter characterUsed Option·toList
   attribute-painted attribute = simp attribute
@@ -69,7 +73,7 @@ module _ (ram : Ram) (counter line column : ℕ) (before : Registers) where
   -- where the pattern of a picture is read
   abbrev pub patternAddress : ℕ
   patternAddress =
-      cond (isBitmap line (before .mode)) (screenAddress (ram .profile) line column (before .mode))
+      cond (isBitmap line (before .mode)) screen
       (characterAddress (ram .profile) line (before .mode) (before .style) (byte % 128))
 
   -- it is in the low six bits of the byte there
@@ -80,10 +84,12 @@ module _ (ram : Ram) (counter line column : ℕ) (before : Registers) where
   pictured false e picture = simp (picture, e)
 
   -- outside bitmaps it is a character byte
-  counted : (bitmap : Bool) (address : ℕ) → cond bitmap 0 1 ≡ length (Option·toList (cond bitmap none (some address)))
+  counted : (bitmap : Bool) (address : ℕ)
+      → let character = cond bitmap none (some address) in
+      (cond bitmap 0 1 ≡ length (Option·toList character)) × (cond bitmap screen address ≡ Option·getD character screen)
   unfolding Option·toList
-  counted true address = refl
-  counted false address = refl
+  counted true address = (refl, refl)
+  counted false address = (refl, refl)
 
   picture-colours : isAttribute byte ≡ false → coloursOf ram counter line before byte ≡ shown before counter byte (byteAt (ram .image) patternAddress)
   unfolding coloursOf
@@ -93,9 +99,16 @@ module _ (ram : Ram) (counter line column : ℕ) (before : Registers) where
 
   pub picture-painted : isAttribute byte ≡ false
       → _≡_ {A = PaintedCell}
-      (record { registers = before; colours = shown before counter byte (byteAt (ram .image) patternAddress); character = cond (isBitmap line (before .mode)) 0 1 })
+      (record {
+        registers = before;
+        colours = shown before counter byte (byteAt (ram .image) patternAddress);
+        screen = screen;
+        character = cond (isBitmap line (before .mode)) 0 1;
+        pattern = patternAddress;
+      })
       (paintedCell (cell ram counter line column before))
   unfolding cell registersAfter characterUsed
   picture-painted picture =
       let address = characterAddress (ram .profile) line (before .mode) (before .style) (byte % 128) in
-      rw (picture-colours picture) (simp picture (rw (counted (isBitmap line (before .mode)) address) refl))
+      let used = counted (isBitmap line (before .mode)) address in
+      rw (picture-colours picture) (simp picture (rw (used .0, used .1) refl))

@@ -27,7 +27,7 @@ use Rattle.video.specs.declared.registers.Registers.{Registers}
 use Rattle.video.specs.declared.state.State.{State}
 
 -- what a profile has folded first, the 16K machine folds to the same
-folded-twice : (profile address : ℕ) → folded 1 (folded profile address) ≡ folded 1 address
+pub folded-twice : (profile address : ℕ) → folded 1 (folded profile address) ≡ folded 1 address
 folded-twice profile address =
     cond-all (λ (n : ℕ). folded 1 n ≡ folded 1 address) (is16K profile) (address % blockLength) address (omega arith) refl
 
@@ -103,7 +103,7 @@ module _ (profile : ℕ) where
   one-folded none = refl
   one-folded (some address) = refl
 
-  used-folded : (cells : List Cell) → used (foldedCells cells) ≡ map (folded profile) (used cells)
+  pub used-folded : (cells : List Cell) → used (foldedCells cells) ≡ map (folded profile) (used cells)
   unfolding used flatMap
   used-folded [] = refl
   used-folded (c ∷ cells) =

@@ -5,6 +5,7 @@ pub mod Answers
 pub mod Block
 pub mod Cells
 pub mod Choice
+pub mod Columns
 pub mod Entries
 pub mod Folded
 pub mod Frames

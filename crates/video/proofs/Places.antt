@@ -16,6 +16,7 @@ use Rattle.machine.proofs.Choice.{cond-all, cond-most}
 use Rattle.machine.proofs.Each.{each-none, each-cons, each-replicate, each-map, each-flatMap, each-flatten}
 use Rattle.machine.proofs.Lists.{flatten-at, map-at}
 use Rattle.video.specs.Address.{isBitmap, screenAddress, characterAddress}
+use Rattle.video.specs.Answer.{cellsOfLine}
 use Rattle.video.specs.Cell.{Cell, cell, screenByte, registersAfter, characterUsed, coloursOf, pattern, pixels, used, modeLeft}
 use Rattle.video.specs.Frame.{modeBefore, lineOf, firstLines, frameCells}
 use Rattle.video.specs.Laws.{Placed, InForce, Colour, RegionsHold, ModesCarry, UsedBelowOverlay, UsedInImage, LineOfColours, FrameOfColours, PixelOfCell, CellsOfSix}
@@ -56,26 +57,37 @@ regions-hold image state =
           (definition-in-region profile line (before .mode) (before .style) (byte % 128) (omega arith)),
     ))
 
--- what holds of every screen address and of every character address holds of the used addresses of a frame
-used-each : (Q : ℕ → Type 0) (image : Image) (state : State)
-    → ((line column mode : ℕ) → line < lines → column < columns → Q (screenAddress (state .profile) line column mode))
-    → ((line mode style code : ℕ) → code < 128 → Q (characterAddress (state .profile) line mode style code))
-    → Each Q (used (frameCells image state))
-unfolding used cell
-used-each Q image state screens characters =
-    each-flatMap Q _ (frameCells image state)
-    (each-of-frame (λ (c : Cell). Each Q (c .screen ∷ Option·toList (c .character))) image state (λ line column hl hc before coloured.
-    let byte = screenByte (ramOf image state) line column (before .mode) in
-    each-cons Q _ _ (screens line column (before .mode) hl hc)
-    (character-each Q (state .profile) line before byte (λ none. characters line (before .mode) (before .style) (byte % 128) (omega arith)))))
+-- what holds of every screen address and of every character address holds of the used addresses of a line and of a frame
+module _ (Q : ℕ → Type 0) (image : Image) (state : State)
+    (screens : (line column mode : ℕ) → line < lines → column < columns → Q (screenAddress (state .profile) line column mode))
+    (characters : (line mode style code : ℕ) → code < 128 → Q (characterAddress (state .profile) line mode style code)) where
+  abbrev UsedBy : Cell → Type 0
+  UsedBy c = Each Q (c .screen ∷ Option·toList (c .character))
+
+  used-by-cell : (line column : ℕ) → line < lines → column < columns → (before : Registers) → Coloured before
+      → UsedBy (cell (ramOf image state) (state .counter) line column before)
+  unfolding cell
+  used-by-cell line column hl hc before coloured =
+      let byte = screenByte (ramOf image state) line column (before .mode) in
+      each-cons Q _ _ (screens line column (before .mode) hl hc)
+      (character-each Q (state .profile) line before byte (λ none. characters line (before .mode) (before .style) (byte % 128) (omega arith)))
+
+  pub used-of-line : (line : ℕ) → line < lines → Each Q (used (cellsOfLine image state line))
+  unfolding used
+  used-of-line line hl =
+      each-flatMap Q _ _ (each-of-line UsedBy (ramOf image state) (state .counter) line (state .mode) (λ column. used-by-cell line column hl))
+
+  pub used-of-frame : Each Q (used (frameCells image state))
+  unfolding used
+  used-of-frame = each-flatMap Q _ _ (each-of-frame UsedBy image state used-by-cell)
 
 pub used-below-overlay : UsedBelowOverlay
 used-below-overlay image state =
-    used-each (λ (address : ℕ). address < 0xC000) image state (screen-below (state .profile)) (characters-below (state .profile))
+    used-of-frame (λ (address : ℕ). address < 0xC000) image state (screen-below (state .profile)) (characters-below (state .profile))
 
 pub used-in-image : UsedInImage
 used-in-image image state =
-    used-each (λ (address : ℕ). address < imageLength (state .profile)) image state (screen-inside (state .profile)) (characters-inside (state .profile))
+    used-of-frame (λ (address : ℕ). address < imageLength (state .profile)) image state (screen-inside (state .profile)) (characters-inside (state .profile))
 
 colours-most : (ram : Ram) (counter line : ℕ) (before : Registers) (byte : ℕ) → Coloured before
     → Each Colour (coloursOf ram counter line before byte)

@@ -3,6 +3,7 @@
 use Prim.Native.Nat.{ℕ, zero, suc, _+_, _-_, _*_, _/_, _%_, _^_}
 use mathlib.Core.Bool.{cond, _||_}
 use mathlib.Core.List.{List, [], _∷_, _++_, map, Option·toList}
+use mathlib.Core.Option.{Option·getD}
 use lib.Dec.{eqb}
 use lib.ListN.{length, take, drop}
 use Rattle.machine.specs.Bits.{bit, ofBits}
@@ -43,7 +44,17 @@ shown registers counter byte pattern =
 -- what is handed back of a cell
 abbrev pub paintedCell : Cell → PaintedCell
 paintedCell c =
-    record { registers = c .registers; colours = c .colours; character = length (Option·toList (c .character)) }
+    record {
+      registers = c .registers;
+      colours = c .colours;
+      screen = c .screen;
+      character = length (Option·toList (c .character));
+      pattern = Option·getD (c .character) (c .screen);
+    }
+
+-- the addresses that a cell used, read off that
+abbrev pub usedBy : PaintedCell → List ℕ
+usedBy painted = painted .screen ∷ cond (eqb (painted .character) 1) (painted .pattern ∷ []) []
 
 -- what is handed back of a line that begins in the given mode
 abbrev pub paintedLine : Ram → ℕ → ℕ → ℕ → PaintedLine
@@ -81,6 +92,10 @@ pixelBytes word = let bytes = lowBytes 7 word in take 4 bytes ++ drop 5 bytes
 -- the word of a pattern: a byte of 1 for each pixel that is set, the leftmost pixel lowest
 abbrev pub spreadWord : ℕ → ℕ
 spreadWord pattern = wordOf (gapped (map (λ (weight : ℕ). cond (bit weight pattern) 1 0) patternWeights))
+
+-- the bytes of a map that have the bits of the block
+abbrev pub blockMarks : ℕ
+blockMarks = 2048
 
 -- a byte with one of its bits set
 abbrev pub withBit : ℕ → ℕ → ℕ

@@ -25,7 +25,7 @@ use machine::profile_refusal;
 
 // All bytes that are used lie in the block of RAM from 8000 to BFFF, which in the 16K machine is the whole RAM. The painter is lent
 // this block alone, and counts places from its start.
-const BLOCK: usize = 0x8000;
+pub(crate) const BLOCK: usize = 0x8000;
 
 // The lines that can show a bitmap; those below them are text in every mode.
 const BITMAP_LINES: usize = 200;

@@ -3,7 +3,7 @@ ghost use mathlib.Core.Path.{_≡_};
 ghost use Prim.Native.Nat.{_≤_, _<_, _^_};
 ghost use Rattle.machine.specs.Refusal.{refusalBefore};
 ghost use Rattle.machine.specs.Sizes.{lastMode};
-ghost use Rattle.video.specs.Answer.{paintingChecks, unpainted};
+ghost use Rattle.video.specs.Answer.{pictureChecks, stateChecks, unpainted};
 ghost use Rattle.video.specs.Internal.{answered};
 use crate::state::State;
 use machine::DONE;
@@ -23,20 +23,25 @@ pub struct Painted {
     pub character: u32,
 }
 
-// Refusals 12, 1, 2, 3, 4, which lines and frames share.
-pub(crate) fn painting_refusal(
+// Refusals 12, 1, and 2 for what is to be painted: the first of lines and frames.
+pub(crate) fn picture_refusal(
+    profile: u8,
     memory: usize,
     wanted: usize,
     output: usize,
-    state: State,
     later: u8,
 ) -> u8
-    ensures { λ r. ⌜ r ≡ refusalBefore (paintingChecks memory wanted output state) later ⌝ }
+    ensures { λ r. ⌜ r ≡ refusalBefore (pictureChecks profile memory wanted output) later ⌝ }
 {
-    let profile = state.profile;
-    let wrong_state = mode_refusal(state.mode, counter_refusal(state.counter, later));
-    let wrong_output = output_refusal(wanted, output, wrong_state);
+    let wrong_output = output_refusal(wanted, output, later);
     profile_refusal(profile, memory_refusal(profile, memory, wrong_output))
+}
+
+// Refusals 3, 4.
+pub(crate) fn state_refusal(state: State, later: u8) -> u8
+    ensures { λ r. ⌜ r ≡ refusalBefore (stateChecks state) later ⌝ }
+{
+    mode_refusal(state.mode, counter_refusal(state.counter, later))
 }
 
 pub(crate) fn refused(status: u8, state: State) -> Painted

@@ -11,11 +11,14 @@ use crate::registers::Registers;
 use crate::registers::is_attribute;
 use machine::choose_address;
 
-// The registers that a cell leaves, its colours, and how many character bytes it used, 0 or 1.
+// The registers that a cell leaves, its colours, and what it used: where its screen byte is, how many character bytes, 0 or 1, and
+// where its pattern is, at the character byte or, where that is none, at the screen byte.
 pub(crate) struct PaintedCell {
     pub registers: Registers,
     pub colours: [u8; 6],
+    pub screen: usize,
     pub character: u64,
+    pub pattern: usize,
 }
 
 // A cell uses one screen byte. A picture's pattern is in the screen byte itself or in a character byte: the address is
@@ -40,15 +43,19 @@ pub(crate) fn paint_cell(
         return PaintedCell {
             registers: after,
             colours: after.paint_colours(counter, 0, byte),
+            screen,
             character: 0,
+            pattern: screen,
         };
     }
     let bitmap = line.is_bitmap(before.mode);
     let definition = line.character_address(before, byte);
-    let pattern = block[choose_address(bitmap, screen, definition)];
+    let pattern = choose_address(bitmap, screen, definition);
     PaintedCell {
         registers: before,
-        colours: before.paint_colours(counter, pattern, byte),
+        colours: before.paint_colours(counter, block[pattern], byte),
+        screen,
         character: choose(bitmap, 0, 1),
+        pattern,
     }
 }

@@ -51,7 +51,7 @@ returns c =
     let k = c .before .before .before .before in
     let a = k .before .before .before .args in
     let attribute = sym (c .before .before .before .is-attribute .ensures) ∙ c .before .before .if1 .taken in
-    rw (c .paint-colours .ensures, c .before .latch-attribute .ensures, read k)
+    rw (c .paint-colours .ensures, c .before .latch-attribute .ensures, read k, k .before .screen-address .ensures)
     (attribute-painted (blockRam (now (a .block))) (a .counter) (a .line .number) (a .column) (a .before) (rw (read k) at attribute))
 
 -- the pattern is read where the rules have it
@@ -62,8 +62,8 @@ chosen d =
     let k = d .before .before .before .before .before in
     rw (d .choose-address .ensures .0, d .before .character-address .ensures, d .before .before .is-bitmap .ensures, read k, k .before .screen-address .ensures)
 
-shared-slice-read-pattern : tie.Need-shared-slice-read-pattern
-shared-slice-read-pattern c =
+shared-slice-read-paint-colours : tie.Need-shared-slice-read-paint-colours
+shared-slice-read-paint-colours c =
     let k = c .before .before .before .before .before .before in
     let start = k .before .before .before in
     let a = start .args in
@@ -76,7 +76,7 @@ returns-2 c =
     let k = d .before .before .before .before .before in
     let a = k .before .before .before .args in
     let picture = sym (d .before .before .before .before .is-attribute .ensures) ∙ d .before .before .before .if1 .left in
-    rw (c .choose .ensures, c .before .paint-colours2 .ensures, d .before .before .is-bitmap .ensures, chosen d, read k)
+    rw (c .choose .ensures, c .before .paint-colours2 .ensures, d .before .before .is-bitmap .ensures, chosen d, read k, k .before .screen-address .ensures)
     (picture-painted (blockRam (now (a .block))) (a .counter) (a .line .number) (a .column) (a .before) (rw (read k) at picture))
 
 pub paint-cell-spec : {M : Type 1} → statement M
@@ -92,7 +92,7 @@ paint-cell-spec =
     (λ c κs. tt)
     (λ c κs. search needs)
     (λ c κs. tt)
-    shared-slice-read-pattern
+    shared-slice-read-paint-colours
     (λ c κs. search needs)
     (λ c κs. tt)
     returns-2)

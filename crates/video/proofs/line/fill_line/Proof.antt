@@ -28,44 +28,47 @@ flatten-next cells column h =
     simp (add-one, take-suc cells column [] h, flatten-append (take column cells) (getD cells column [] ∷ []), append-nil)
 
 abbrev Inv-loop2 : tie.InvT-loop2
-Inv-loop2 block counter output₀ cells painted column from k₀ output k =
+Inv-loop2 block counter output₀ marks cells painted column from k₀ output k =
     (k ≤ cellLength) × (length output ≡ lineLength) × (take (from + k) output ≡ flatten (take column cells) ++ take k (getD cells column []))
 
 abbrev μ-loop2 : tie.MeasureT-loop2
-μ-loop2 block counter output₀ cells painted column from k₀ output k = cellLength - k
+μ-loop2 block counter output₀ marks cells painted column from k₀ output k = cellLength - k
 
 abbrev Inv-loop : tie.InvT-loop
-Inv-loop block counter output₀ cells painted column₀ output column =
+Inv-loop block counter output₀ marks cells painted column₀ output column =
     (column ≤ columns) × (length output ≡ lineLength) × (take (cellLength * column) output ≡ flatten (take column cells))
 
 abbrev μ-loop : tie.MeasureT-loop
-μ-loop block counter output₀ cells painted column₀ output column = columns - column
+μ-loop block counter output₀ marks cells painted column₀ output column = columns - column
 
 -- the cells are forty times six colours
 module _ (k : tie.After-paint-cells Inv-loop2 μ-loop2 Inv-loop μ-loop) where
+  abbrev start : tie.Start Inv-loop2 μ-loop2 Inv-loop μ-loop
+  start = k .before .before .before .before .before .before
+
   abbrev cellsOf : List (List ℕ)
   cellsOf = k .paint-cells .last .1 .1 .1 .1 .0
 
   abbrev lineOf : List Cell
-  lineOf = let a = k .before .before .before .before .args in lineCells (blockRam (now (a .block))) (a .counter) (a .line .number) (a .before .mode)
+  lineOf = let a = start .args in lineCells (blockRam (now (a .block))) (a .counter) (a .line .number) (a .before .mode)
 
   forty : length cellsOf ≡ columns
   forty =
-      let a = k .before .before .before .before .args in
-      ap length (k .paint-cells .ensures .1)
+      let a = start .args in
+      ap length (k .paint-cells .ensures .1 .0)
       ∙ length-map lineOf (λ (c : Cell). c .colours)
       ∙ cells-length (blockRam (now (a .block))) (a .counter) (a .line .number) (a .before .mode) columns
 
   six : (column : ℕ) → column < columns → Six (getD cellsOf column [])
   six column h =
-      let a = k .before .before .before .before .args in
+      let a = start .args in
       let all : Each Six cellsOf =
-      rw (k .paint-cells .ensures .1) (line-sixes (blockRam (now (a .block))) (a .counter) (a .line .number) (a .before .mode)) in
+      rw (k .paint-cells .ensures .1 .0) (line-sixes (blockRam (now (a .block))) (a .counter) (a .line .number) (a .before .mode)) in
       each-at Six cellsOf all column [] (omega (arith, forty))
 
 loop-holds : tie.Need-loop-holds Inv-loop2 μ-loop2 Inv-loop μ-loop
 unfolding flatten
-loop-holds c = (omega arith, c .before .before .before .before .pre .1 .1 .1, refl)
+loop-holds c = (omega arith, start (c .before .before) .pre .1 .1 .1, refl)
 
 loop2-holds : tie.Need-loop2-holds Inv-loop2 μ-loop2 Inv-loop μ-loop
 loop2-holds c =
@@ -77,7 +80,7 @@ loop2-again : tie.Need-loop2-again Inv-loop2 μ-loop2 Inv-loop μ-loop
 loop2-again c =
     let here = c .before .before .loop2 in
     let column = c .before .before .before .before .loop .column in
-    let done = c .before .before .before .before .before in
+    let done = c .before .before .before .before .before .before .before in
     let cell = getD (cellsOf done) column [] in
     let colour = getD cell (here .k) 0 in
     let place = cellLength * column + here .k in
@@ -94,7 +97,7 @@ loop-again : tie.Need-loop-again Inv-loop2 μ-loop2 Inv-loop μ-loop
 loop-again c =
     let here = c .before .loop2 in
     let column = c .before .before .before .loop .column in
-    let done = c .before .before .before .before in
+    let done = c .before .before .before .before .before .before in
     let cells = cellsOf done in
     let cell = getD cells column [] in
     let next : cellLength * (column + 1) ≡ cellLength * column + here .k = omega arith in
@@ -108,11 +111,11 @@ returns : tie.Need-returns Inv-loop2 μ-loop2 Inv-loop μ-loop
 unfolding pixels
 returns c =
     let here = c .before .loop in
-    let done = c .before .before in
+    let done = c .before .before .before .before in
     let cells = cellsOf done in
     let full = take-all (cellLength * here .column) (here .output) (omega arith) in
     let all = take-all (here .column) cells (omega (arith, forty done)) in
-    (done .paint-cells .ensures .0, sym full ∙ here .inv .2 ∙ ap flatten (all ∙ done .paint-cells .ensures .1))
+    (done .paint-cells .ensures .0, (sym full ∙ here .inv .2 ∙ ap flatten (all ∙ done .paint-cells .ensures .1 .0), done .paint-cells .ensures .1 .1))
 
 pub fill-line-spec : {M : Type 1} → statement M
 fill-line-spec =
@@ -138,4 +141,5 @@ fill-line-spec =
     (λ c. omega arith)
     loop-again
     (λ c. omega arith)
+    (λ c. search needs)
     returns)

@@ -1,85 +1,18 @@
--- `video::line::paint_cells` meets its contract. The loop's invariant is `Reached`: the cells before a column are painted and counted.
+-- `video::line::paint_cells` meets its contract: where no marks are lent there is no bit to set.
 -- Assumes nothing.
-mod Progress
-use Prim.Native.Nat.{_+_, _-_}
-use mathlib.Core.Path.{_≡_, sym, ap, _∙_}
-use native.Mathlib.Omega.{arith}
 use denote.Ref.{now}
-use Rattle.machine.specs.Sizes.{columns}
-use Rattle.video.specs.Internal.{blockRam}
-use Rattle.video.specs.Line.{firstCells}
-use Rattle.video.specs.Registers.{lineReset}
-use Rattle.video.proofs.Lines.{cells-length, registers-coloured}
-use Rattle.video.proofs.Readings.{characters-most}
-use Rattle.video.proofs.line.paint_cells.Proof.Progress.{Reached, none, next, all}
-use Rattle.video.specs.declared.registers.Registers.{Registers}
+use borrow.Author.Needs.{needs}
+use Rattle.video.proofs.Marks.{marked-empty}
 use Rattle.video.proofs.line.paint_cells.Statement.{statement}
 use Rattle.video.proofs.line.paint_cells.Tie as tie
 
-abbrev Inv-loop : tie.InvT-loop
-Inv-loop block counter line cells₀ registers₀ screen₀ character₀ column₀ cells registers screen character column =
-    Reached (blockRam block) counter (line .number) (registers₀ .mode) cells registers screen character column
-
-abbrev μ-loop : tie.MeasureT-loop
-μ-loop block counter line cells₀ registers₀ screen₀ character₀ column₀ cells registers screen character column =
-    columns - column
-
--- the line begins in the mode that was carried to it
-same-mode : (k : tie.After-line-reset Inv-loop μ-loop) → k .line-reset .result .mode ≡ k .before .before .args .before .mode
-same-mode k = ap (λ (r : Registers). r .mode) (k .line-reset .ensures)
-
-loop-holds : tie.Need-loop-holds Inv-loop μ-loop
-loop-holds c =
-    let start = c .before .before in
-    none _ _ _ _ (now (start .args .cells)) (c .line-reset .result) (start .pre .1 .1 .1) (c .line-reset .ensures ∙ ap lineReset (sym (same-mode c)))
-
-paint-cell-requires : tie.Need-paint-cell-requires Inv-loop μ-loop
-paint-cell-requires c κs =
-    let reset = c .before .before in
-    let start = reset .before .before in
-    let known = registers-coloured (blockRam (now (start .args .block))) (start .args .line .number) (reset .line-reset .result .mode) (c .before .loop .column) in
-    (start .pre .0, ((start .pre .1 .0, omega arith), (start .pre .1 .1 .0, rw (c .before .loop .inv .path) (known .ink, known .paper))))
-
-loop-again : tie.Need-loop-again Inv-loop μ-loop
-loop-again c =
-    let here = c .before .before .before .before .before .loop in
-    let cell = c .before .before .before .paint-cell in
-    next _ _ _ _ _ _ _ _ _ (here .inv) (omega arith) (cell .result) (cell .ensures)
-
-add-character : tie.Need-add-character Inv-loop μ-loop
-add-character c =
-    let reset = c .before .before .before .before .before .before in
-    let a = reset .before .before .args in
-    let column = c .before .before .before .before .before .loop .column in
-    let mode = reset .line-reset .result .mode in
-    let ram = blockRam (now (a .block)) in
-    omega (
-      arith,
-      loop-again c .characters,
-      characters-most (firstCells ram (a .counter) (a .line .number) mode (column + 1)),
-      cells-length ram (a .counter) (a .line .number) mode (column + 1),
-    )
-
-returns : tie.Need-returns Inv-loop μ-loop
+returns : tie.Need-returns
 returns c =
-    let done = all _ _ _ _ _ _ _ _ _ (c .before .loop .inv) (omega arith) in
-    let same = same-mode (c .before .before) in
-    (rw same at (done .0), rw same at (done .1))
+    let empty = c .before .before .if1 .taken in
+    let a = c .before .before .before .before .before .args in
+    (c .paint-unmarked .ensures .0, (c .paint-unmarked .ensures .1, marked-empty (now (a .marks)) _ empty))
 
 pub paint-cells-spec : {M : Type 1} → statement M
 paint-cells-spec =
     tie.close
-    (tie.spec
-    Inv-loop
-    μ-loop
-    (λ c κs. tt)
-    loop-holds
-    paint-cell-requires
-    (λ c. omega arith)
-    (λ c. omega arith)
-    (λ c. omega arith)
-    add-character
-    (λ c. omega arith)
-    (λ c. omega arith)
-    loop-again
-    returns)
+    (tie.spec (λ c κs. search needs) returns (λ c κs. search needs) (λ c. search needs) (λ c. search needs))

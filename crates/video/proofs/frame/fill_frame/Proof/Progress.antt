@@ -12,15 +12,17 @@ use Rattle.machine.specs.Lists.{gather}
 use Rattle.machine.specs.Sizes.{columns, lines, lineLength, frameLength}
 use Rattle.machine.proofs.Lists.{piece-length, piece-done}
 use Rattle.video.specs.Answer.{painted}
-use Rattle.video.specs.Cell.{Cell, pixels, characterAddresses}
+use Rattle.video.specs.Cell.{Cell, pixels, characterAddresses, used}
 use Rattle.video.specs.Frame.{modeAfterLines, modeBefore, lineOf, firstLines, frameCells}
 use Rattle.video.specs.Internal.{blockRam, answered, paintedLine}
 use Rattle.video.specs.Line.{lineCells}
+use Rattle.video.specs.Map.{marked}
 use Rattle.video.specs.Ram.{Ram}
 use Rattle.video.specs.State.{withProfile, afterFrame}
-use Rattle.video.proofs.Frames.{lines-next, mode-next, mode-down, frame-uses-screen-bytes}
+use Rattle.video.proofs.Frames.{lines-next, characters-down, mode-next, mode-down, frame-uses-screen-bytes}
 use Rattle.video.proofs.Lines.{line-pixels, line-uses-screen-bytes}
-use Rattle.video.proofs.Readings.{pixels-append, characters-append}
+use Rattle.video.proofs.Marks.{Bytes, marked-none, marks-join}
+use Rattle.video.proofs.Readings.{pixels-append, characters-append, used-append}
 use Rattle.video.specs.declared.line.PaintedLine.{PaintedLine}
 use Rattle.video.specs.declared.registers.Registers.{Registers}
 use Rattle.video.specs.declared.state.State.{State}
@@ -44,6 +46,11 @@ module _ (image : Image) (state : State) where
   unfolding firstLines gather modeAfterLines pixels flatten characterAddresses flatMap
   none frame registers size mode =
       record { within = omega arith; size = size; filled = refl; path = mode; screens = refl; characters = refl }
+
+  -- no address is marked before the first line
+  pub none-marked : (marks : List ℕ) → Bytes marks → marks ≡ marked marks (used (first 0))
+  unfolding firstLines gather used flatMap
+  none-marked marks bytes = marked-none marks bytes
 
   module _ (frame : List ℕ) (registers : Registers) (screen character line : ℕ) (here : Reached frame registers screen character line) where
     pub next : line < lines → (part : List ℕ) (answer : PaintedLine)
@@ -70,6 +77,21 @@ module _ (image : Image) (state : State) where
               ∙ sym (ap (λ (l : List Cell). length (characterAddresses l)) grown ∙ characters-append (first line) cells);
         }
 
+    -- no more character bytes are used than cells
+    pub few : character ≤ columns * line
+    few = omega (arith, here .characters, characters-down ram (state .counter) (state .mode) line)
+
+    -- the line's addresses are marked after those of the lines before it
+    pub next-marked : (before marks after : List ℕ) → marks ≡ marked before (used (first line))
+        → after ≡ marked marks (used (lineCells ram (state .counter) line (registers .mode)))
+        → after ≡ marked before (used (first (line + 1)))
+    next-marked before marks after m a =
+        let cells = lineOf ram (state .counter) (state .mode) line in
+        a
+        ∙ ap₂ (λ (l : List ℕ) (mode : ℕ). marked l (used (lineCells ram (state .counter) line mode))) m (here .path)
+        ∙ marks-join before (used (first line)) (used cells)
+        ∙ ap (marked before) (sym (ap used (lines-next ram (state .counter) (state .mode) line) ∙ used-append (first line) cells))
+
     pub all : lines ≤ line
         → (answered (afterFrame state) (registers .mode) screen character ≡ painted (afterFrame state) (frameCells image (withProfile 1 state)))
         × (frame ≡ pixels (frameCells image (withProfile 1 state)))
@@ -78,3 +100,7 @@ module _ (image : Image) (state : State) where
           rw (here .path, here .screens, here .characters, e, mode-down ram (state .counter) (state .mode) lines, frame-uses-screen-bytes image (withProfile 1 state)),
           sym (take-all (lineLength * line) frame (omega arith)) ∙ here .filled ∙ ap (λ (n : ℕ). pixels (first n)) e,
         )
+
+    pub all-marked : lines ≤ line → (before marks : List ℕ) → marks ≡ marked before (used (first line))
+        → marks ≡ marked before (used (frameCells image (withProfile 1 state)))
+    all-marked end before marks m = let e : line ≡ lines = omega arith in m ∙ ap (λ (n : ℕ). marked before (used (first n))) e
