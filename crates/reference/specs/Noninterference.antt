@@ -1,6 +1,6 @@
 -- Noninterference (demand 3): what a frame shows depends on its used addresses alone, these lie in their regions, and no list
 -- of bus accesses that stores at none of them changes it. One statement in three parts, over the definitions that the contracts
--- of paint_frame, read, write and write_in_place cite.
+-- of paint_frame, paint_frame_mapped, read, write and write_in_place cite.
 -- Assumes nothing.
 use Prim.Native.Nat.{ℕ}
 use mathlib.Core.Path.{_≡_}
@@ -12,27 +12,41 @@ use Rattle.machine.specs.Sizes.{frameLength}
 use Rattle.video.specs.State.{Within, afterFrame}
 use Rattle.video.specs.Cell.{pixels, used}
 use Rattle.video.specs.Frame.{frameCells}
-use Rattle.video.specs.Answer.{painted, frameAnswer, frameContents}
+use Rattle.video.specs.Answer.{painted, frameAnswer, frameContents, mappedFrameAnswer, mappedFrameContents, mappedFrameMap}
 use Rattle.video.specs.Laws.{Agree, InForce, Placed}
+use Rattle.video.specs.Map.{mapLength}
+use Rattle.video.specs.declared.answer.Painted.{Painted}
 use Rattle.video.specs.declared.state.State.{State}
 use Rattle.bus.specs.Accesses.{Step, boardAfter, stores}
 use Rattle.bus.specs.declared.latch.Latches.{Latches}
 
--- the program paints two images into two lent frames, whatever these held before: neither painting is refused, and both leave and
--- answer the same
-pub record PaintSame (first second : Image) (state : State) (lent other : List ℕ) : Type 0 where
-  pub first-done : frameAnswer first state lent .status ≡ 0
-  pub second-done : frameAnswer second state other .status ≡ 0
-  pub contents : frameContents second state other ≡ frameContents first state lent
-  pub answers : frameAnswer second state other ≡ frameAnswer first state lent
+-- two paintings of the program: neither is refused, and both leave and answer the same
+pub record DoneAlike (first second : Painted) (lent other : List ℕ) : Type 0 where
+  pub first-done : first .status ≡ 0
+  pub second-done : second .status ≡ 0
+  pub contents : other ≡ lent
+  pub answers : second ≡ first
+
+-- the program paints two images into two lent frames, whatever these held before
+abbrev pub PaintSame : Image → Image → State → List ℕ → List ℕ → Type 0
+PaintSame first second state lent other =
+    DoneAlike (frameAnswer first state lent) (frameAnswer second state other) (frameContents first state lent) (frameContents second state other)
+
+-- and, with maps that were equal before, marks the same
+abbrev pub MapSame : Image → Image → State → List ℕ → List ℕ → List ℕ → Type 0
+MapSame first second state lent other map =
+    DoneAlike (mappedFrameAnswer first state lent map) (mappedFrameAnswer second state other map)
+    (mappedFrameContents first state lent map) (mappedFrameContents second state other map)
+    × (mappedFrameMap second state other map ≡ mappedFrameMap first state lent map)
 
 -- two images show the same from a start state: the used addresses in painting order, all pixels, the state afterwards and both
--- counts; and so does the program, for any two lent frames of 53,760 bytes
+-- counts; and so does the program, for any two lent frames of 53,760 bytes and any map of 8,192 bytes
 pub record ShowSame (first second : Image) (state : State) : Type 0 where
   pub addresses : used (frameCells second state) ≡ used (frameCells first state)
   pub shown : pixels (frameCells second state) ≡ pixels (frameCells first state)
   pub answer : painted (afterFrame state) (frameCells second state) ≡ painted (afterFrame state) (frameCells first state)
-  pub program : (lent other : List ℕ) → length lent ≡ frameLength → length other ≡ frameLength → PaintSame first second state lent other
+  pub program : (lent other : List ℕ) → length lent ≡ frameLength → length other ≡ frameLength
+      → PaintSame first second state lent other × ((map : List ℕ) → length map ≡ mapLength → MapSame first second state lent other map)
 
 -- no address is in both lists
 abbrev pub Apart : List ℕ → List ℕ → Type 0

@@ -1,7 +1,7 @@
 // Every entry point under its C name. Each has the contract of the function that it calls.
 ghost use mathlib.Core.Path.{_≡_};
 ghost use Rattle.video.specs.State.{freshState};
-ghost use Rattle.video.specs.Answer.{addressAnswer, lineAnswer, lineContents, frameAnswer, frameContents};
+ghost use Rattle.video.specs.Answer.{addressAnswer, lineAnswer, lineContents, frameAnswer, frameContents, mappedLineAnswer, mappedLineContents, mappedLineMap, mappedFrameAnswer, mappedFrameContents, mappedFrameMap};
 ghost use Rattle.bus.specs.Cycle.{readAnswer, writeAnswer, writeContents, writeLatches, written};
 ghost use Rattle.bus.specs.Latch.{freshLatches};
 ghost use Rattle.bus.specs.Place.{decodeAnswer};
@@ -55,6 +55,35 @@ pub extern "C" fn tropfenpfad_paint_frame(memory: &[u8], state: State, frame: &m
     ensures { λ r. ⌜ now (frame .exit) ≡ frameContents (now (memory .entry)) state (now (frame .entry)) ⌝ }
 {
     video::paint_frame(memory, state, frame)
+}
+
+#[no_mangle]
+pub extern "C" fn tropfenpfad_paint_line_mapped(
+    memory: &[u8],
+    state: State,
+    line: usize,
+    output: &mut [u8],
+    map: &mut [u8],
+) -> Painted
+    ensures { λ r. ⌜ r ≡ mappedLineAnswer (now (memory .entry)) state line (now (output .entry)) (now (map .entry)) ⌝ }
+    ensures { λ r. ⌜ now (output .exit) ≡ mappedLineContents (now (memory .entry)) state line (now (output .entry)) (now (map .entry)) ⌝ }
+    ensures { λ r. ⌜ now (map .exit) ≡ mappedLineMap (now (memory .entry)) state line (now (output .entry)) (now (map .entry)) ⌝ }
+{
+    video::paint_line_mapped(memory, state, line, output, map)
+}
+
+#[no_mangle]
+pub extern "C" fn tropfenpfad_paint_frame_mapped(
+    memory: &[u8],
+    state: State,
+    frame: &mut [u8],
+    map: &mut [u8],
+) -> Painted
+    ensures { λ r. ⌜ r ≡ mappedFrameAnswer (now (memory .entry)) state (now (frame .entry)) (now (map .entry)) ⌝ }
+    ensures { λ r. ⌜ now (frame .exit) ≡ mappedFrameContents (now (memory .entry)) state (now (frame .entry)) (now (map .entry)) ⌝ }
+    ensures { λ r. ⌜ now (map .exit) ≡ mappedFrameMap (now (memory .entry)) state (now (frame .entry)) (now (map .entry)) ⌝ }
+{
+    video::paint_frame_mapped(memory, state, frame, map)
 }
 
 #[no_mangle]
