@@ -2,12 +2,13 @@
  * tropfenpfad.h - the proved reference of the HCS10017, the ULA of the Oric Atmos
  *
  * Two halves. The video half says where a screen byte stands and paints lines
- * and frames from a RAM image. The bus half says what answers at an address
- * and reads and writes over it. Both serve the 48K machine and the 16K machine,
- * by a profile that the caller hands over. Beside the halves stand two calls
- * for pictures that were grabbed from a screen, which hold them against those
- * that should be there: the comparison says where two frames differ, and the
- * search for a slip says by how many pixels a line stands beside its place.
+ * and frames from a RAM image; on request it marks in a map which addresses
+ * they use. The bus half says what answers at an address and reads and writes
+ * over it. Both serve the 48K machine and the 16K machine, by a profile that
+ * the caller hands over. Beside the halves stand two calls for pictures that
+ * were grabbed from a screen, which hold them against those that should be
+ * there: the comparison says where two frames differ, and the search for a slip
+ * says by how many pixels a line stands beside its place.
  * The archive is libtropfenpfad.a (x86-64 Linux); it needs the C library's
  * memcpy and nothing else. `make lib` puts it into target/lib and this header
  * into target/include. The example is compiled so:
@@ -30,10 +31,10 @@
  *     The pointer to a latch record has no length and is never null.
  *   - A pointer to numbers of 16 bits is aligned to 2 bytes. These are
  *     line_counts and cells of compare.
- *   - What is lent in one call does not overlap: not memory and output, not
- *     memory and latch record, not a list and a frame, not the two lists. Only
- *     the two frames of compare and the two lines of find_slip may overlap or
- *     be the same: they are only read.
+ *   - What is lent in one call does not overlap: not memory and output, not a
+ *     map and either of these, not memory and latch record, not a list and a
+ *     frame, not the two lists. Only the two frames of compare and the two
+ *     lines of find_slip may overlap or be the same: they are only read.
  *
  * Nothing else is owed. Every value of every number is answered or refused,
  * a byte may hold anything, no buffer of bytes needs an alignment, and none
@@ -92,6 +93,10 @@ extern "C" {
  * stands at 240 * y + x. */
 #define TROPFENPFAD_FRAME_LENGTH 53760
 
+/* Bytes in a map of used addresses, in either profile: one bit for each of
+ * 65,536 addresses. Address a has bit a % 8 of byte a / 8. */
+#define TROPFENPFAD_MAP_LENGTH 8192
+
 /* ------------------------------------------------------------------------- */
 /* Refusals: the values of `status`                                          */
 /* ------------------------------------------------------------------------- */
@@ -107,7 +112,7 @@ extern "C" {
  */
 #define TROPFENPFAD_DONE                0 /* the call was answered */
 #define TROPFENPFAD_REFUSED_MEMORY      1 /* memory_length is not the profile's: 65,536 or 16,384 */
-#define TROPFENPFAD_REFUSED_OUTPUT      2 /* output, line, frame or list has not its right length */
+#define TROPFENPFAD_REFUSED_OUTPUT      2 /* output, line, frame, map or list has not its right length */
 #define TROPFENPFAD_REFUSED_MODE        3 /* mode is above 7 */
 #define TROPFENPFAD_REFUSED_COUNTER     4 /* counter is above 31 */
 #define TROPFENPFAD_REFUSED_LINE        5 /* line is above 223 */
@@ -127,7 +132,7 @@ typedef struct {
   uint8_t profile; /* TROPFENPFAD_PROFILE_...; no call changes it */
 } tropfenpfad_state;
 
-/* The answer of paint_line and paint_frame. */
+/* The answer of paint_line and paint_frame, with a map or without one. */
 typedef struct {
   uint8_t status;          /* TROPFENPFAD_DONE or a refusal */
   tropfenpfad_state state; /* the state afterwards; as handed in on a refusal */
@@ -211,6 +216,50 @@ tropfenpfad_painted tropfenpfad_paint_line(const uint8_t *memory, size_t memory_
 tropfenpfad_painted tropfenpfad_paint_frame(const uint8_t *memory, size_t memory_length,
                                             tropfenpfad_state state,
                                             uint8_t *frame, size_t frame_length);
+
+/*
+ * Paints one line as paint_line does, and marks the addresses that it uses.
+ *
+ * These are the addresses of its forty screen bytes, and of the character byte
+ * of each cell that uses one, also where flash hides the ink. Only bits of used
+ * addresses are set. All others stay as they were, so that lines and frames
+ * that are painted one after the other gather their marks in one map. For the
+ * marks of one call alone, hand over a map of zeros.
+ *
+ *   memory, memory_length   the RAM image, of the profile's length; only read
+ *   state                   mode and counter before the line, and the profile
+ *   line                    0 to 223
+ *   output, output_length   240 bytes, all of them written
+ *   map, map_length         8,192 bytes in either profile. In profile 1 the
+ *                           addresses are folded, and the bytes from 2,048 on
+ *                           are not touched
+ *
+ * Returns what paint_line returns.
+ * Refuses: 12 profile, 1 memory, 2 output, for the line and then for the map,
+ * 3 mode, 4 counter, 5 line.
+ */
+tropfenpfad_painted tropfenpfad_paint_line_mapped(const uint8_t *memory, size_t memory_length,
+                                                  tropfenpfad_state state, size_t line,
+                                                  uint8_t *output, size_t output_length,
+                                                  uint8_t *map, size_t map_length);
+
+/*
+ * Paints one frame as paint_frame does, and marks the addresses that its lines
+ * use, as paint_line_mapped does.
+ *
+ *   memory, memory_length   the RAM image, of the profile's length; only read
+ *   state                   mode and counter before the frame, and the profile
+ *   frame, frame_length     53,760 bytes, all of them written
+ *   map, map_length         8,192 bytes in either profile; bits are only set
+ *
+ * Returns what paint_frame returns.
+ * Refuses: 12 profile, 1 memory, 2 output, for the frame and then for the map,
+ * 3 mode, 4 counter.
+ */
+tropfenpfad_painted tropfenpfad_paint_frame_mapped(const uint8_t *memory, size_t memory_length,
+                                                   tropfenpfad_state state,
+                                                   uint8_t *frame, size_t frame_length,
+                                                   uint8_t *map, size_t map_length);
 
 /* ------------------------------------------------------------------------- */
 /* Bus                                                                       */

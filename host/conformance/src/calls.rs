@@ -9,4 +9,6 @@ mod video;
 pub use bus::{decode, fresh_latches, read, write, write_in_place};
 pub use compare::compare;
 pub use slip::find_slip;
-pub use video::{fresh_state, paint_frame, paint_line, screen_address};
+pub use video::{
+    fresh_state, paint_frame, paint_frame_mapped, paint_line, paint_line_mapped, screen_address,
+};

@@ -7,6 +7,9 @@
 //! entry point holds its refusals as a list, of which the first that applies is given. The answers
 //! are the C interface's records, so that whole answers can be compared, refused ones included.
 //!
+//! What a painting uses, [`Video`] says as a list in painting order, by following the cells through
+//! its tables without painting them. [`planes`] says it by the bytes that it reads while it paints.
+//!
 //! The two profiles differ in each by one thing. [`Video`] sees only the block of 16K that video
 //! reads, which is a part of the RAM or all of it; [`planes`] folds every address that it reads at;
 //! [`Bus`] takes another number of address bits for the number of a RAM byte.

@@ -3,7 +3,8 @@
 use tropfenpfad::Refusal;
 use tropfenpfad_conformance::inputs::fresh_of_kind;
 use tropfenpfad_sys::{
-    State, FRAME_LENGTH, IMAGE_LENGTH, IMAGE_LENGTH_16K, KIND_MICRODISC, PROFILE_16K, PROFILE_48K,
+    State, FRAME_LENGTH, IMAGE_LENGTH, IMAGE_LENGTH_16K, KIND_MICRODISC, MAP_LENGTH, PROFILE_16K,
+    PROFILE_48K,
 };
 
 #[test]
@@ -43,4 +44,23 @@ fn a_result_that_hides_the_number() {
     let named = (0..=u8::MAX).filter_map(Refusal::from_number).count();
     assert_eq!((Refusal::from_number(0), named), (None, Refusal::ALL.len()));
     println!("results: {} bad inputs compared", Refusal::ALL.len());
+}
+
+#[test]
+fn a_length_that_the_words_leave_out() {
+    let state = tropfenpfad::fresh_state();
+    let memory = vec![0; IMAGE_LENGTH];
+    let (mut frame, mut map) = (vec![0; FRAME_LENGTH], [0; MAP_LENGTH]);
+    let short = &mut map[1..];
+    let given = [
+        tropfenpfad::paint_line_mapped(&memory, state, 0, &mut frame[..240], short),
+        tropfenpfad::paint_frame_mapped(&memory, state, &mut frame, short),
+    ];
+    for result in given {
+        let text = result.unwrap_err().to_string();
+        for length in ["240", "53,760", "8,192", "224", "64"] {
+            assert!(text.contains(length), "{length} in {text:?}");
+        }
+    }
+    println!("words: 2 bad inputs compared");
 }

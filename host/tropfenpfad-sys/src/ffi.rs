@@ -34,6 +34,10 @@ pub const LINE_LENGTH: usize = 240;
 /// Bytes in a painted frame: its lines one after the other.
 pub const FRAME_LENGTH: usize = 53_760;
 
+/// Bytes in a map of used addresses, of either machine: one bit an address, and address a has bit
+/// a % 8 of byte a / 8.
+pub const MAP_LENGTH: usize = 8192;
+
 // ----------------------------------------------------------------------------
 // Refusals
 // ----------------------------------------------------------------------------
@@ -42,7 +46,7 @@ pub const FRAME_LENGTH: usize = 53_760;
 pub const DONE: u8 = 0;
 /// The memory image has not the profile's length.
 pub const REFUSED_MEMORY: u8 = 1;
-/// The lent output, a line, a frame or a list has another length.
+/// The lent output, a line, a frame, a map or a list has another length.
 pub const REFUSED_OUTPUT: u8 = 2;
 /// The mode is too great.
 pub const REFUSED_MODE: u8 = 3;
@@ -75,7 +79,7 @@ pub struct State {
     pub profile: u8,
 }
 
-/// The answer of a painted line or frame.
+/// The answer of a painted line or frame, with a map or without one.
 #[repr(C)]
 #[derive(Clone, Copy, Debug, PartialEq, Eq)]
 pub struct Painted {
@@ -121,6 +125,27 @@ extern "C" {
         state: State,
         frame: *mut u8,
         frame_length: usize,
+    ) -> Painted;
+
+    pub fn tropfenpfad_paint_line_mapped(
+        memory: *const u8,
+        memory_length: usize,
+        state: State,
+        line: usize,
+        output: *mut u8,
+        output_length: usize,
+        map: *mut u8,
+        map_length: usize,
+    ) -> Painted;
+
+    pub fn tropfenpfad_paint_frame_mapped(
+        memory: *const u8,
+        memory_length: usize,
+        state: State,
+        frame: *mut u8,
+        frame_length: usize,
+        map: *mut u8,
+        map_length: usize,
     ) -> Painted;
 }
 

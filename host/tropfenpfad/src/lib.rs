@@ -1,9 +1,10 @@
 //! The proved reference of the HCS10017, the ULA of the Oric Atmos, called from Rust.
 //!
-//! Video: where a cell's screen byte stands, a painted line, a painted frame. Bus: the decode of
-//! an address, a read, and a write in two forms. Comparison: where two frames differ. Slip: by how
-//! many pixels a grabbed line stands beside its place. Each call gives its answer or a [`Refusal`];
-//! on a refusal nothing that was lent has changed.
+//! Video: where a cell's screen byte stands, a painted line, a painted frame, both also with a map
+//! of the addresses that they use. Bus: the decode of an address, a read, and a write in two forms.
+//! Comparison: where two frames differ. Slip: by how many pixels a grabbed line stands beside its
+//! place. Each call gives its answer or a [`Refusal`]; on a refusal nothing that was lent has
+//! changed.
 //!
 //! Every call that deals in addresses takes the profile, 0 for the 48K machine and 1 for the 16K
 //! machine: the painters in the [`State`], the others as an argument. The RAM of the 16K machine is
@@ -34,11 +35,14 @@ pub use bus::{decode, fresh_latches, read, write, write_in_place, Place, Target}
 pub use compare::{compare, Differences, Rectangle};
 pub use refusal::Refusal;
 pub use slip::{find_slip, Slip};
-pub use video::{fresh_state, paint_frame, paint_line, screen_address, Painting};
+pub use video::{
+    fresh_state, paint_frame, paint_frame_mapped, paint_line, paint_line_mapped, screen_address,
+    Painting,
+};
 
 #[doc(inline)]
 pub use tropfenpfad_sys::{
     Latches, State, COLUMNS, FARTHEST_SLIP, FRAME_LENGTH, IMAGE_LENGTH, IMAGE_LENGTH_16K,
-    KIND_JASMIN, KIND_MICRODISC, KIND_NONE, LINES, LINE_LENGTH, LISTED_CELLS, NO_CELL, PROFILE_16K,
-    PROFILE_48K,
+    KIND_JASMIN, KIND_MICRODISC, KIND_NONE, LINES, LINE_LENGTH, LISTED_CELLS, MAP_LENGTH, NO_CELL,
+    PROFILE_16K, PROFILE_48K,
 };

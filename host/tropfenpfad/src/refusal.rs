@@ -12,8 +12,8 @@ use tropfenpfad_sys as ffi;
 pub enum Refusal {
     /// The memory image has not the profile's length: 65,536 bytes for 0, 16,384 for 1.
     Memory = ffi::REFUSED_MEMORY,
-    /// A line is not 240 bytes long, a frame not 53,760, the line counts are not 224 numbers or the
-    /// listed cells not 64.
+    /// A line is not 240 bytes long, a frame not 53,760, a map not 8,192, the line counts are not 224
+    /// numbers or the listed cells not 64.
     Output = ffi::REFUSED_OUTPUT,
     /// The mode is above 7.
     Mode = ffi::REFUSED_MODE,
@@ -64,8 +64,8 @@ impl Refusal {
                 "the memory image is not 65,536 bytes for profile 0 or 16,384 for profile 1"
             }
             Refusal::Output => {
-                "a line is not 240 bytes, a frame not 53,760, the line counts are not 224 numbers \
-                 or the listed cells not 64"
+                "a line is not 240 bytes, a frame not 53,760, a map not 8,192, the line counts are \
+                 not 224 numbers or the listed cells not 64"
             }
             Refusal::Mode => "the mode is above 7",
             Refusal::Counter => "the flash counter is above 31",

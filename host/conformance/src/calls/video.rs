@@ -38,3 +38,45 @@ pub fn paint_frame(memory: &[u8], state: State, frame: &mut [u8]) -> Painted {
         )
     }
 }
+
+pub fn paint_line_mapped(
+    memory: &[u8],
+    state: State,
+    line: usize,
+    output: &mut [u8],
+    map: &mut [u8],
+) -> Painted {
+    // SAFETY: all slices are valid for their lengths, and the exclusive ones overlap no other.
+    unsafe {
+        ffi::tropfenpfad_paint_line_mapped(
+            memory.as_ptr(),
+            memory.len(),
+            state,
+            line,
+            output.as_mut_ptr(),
+            output.len(),
+            map.as_mut_ptr(),
+            map.len(),
+        )
+    }
+}
+
+pub fn paint_frame_mapped(
+    memory: &[u8],
+    state: State,
+    frame: &mut [u8],
+    map: &mut [u8],
+) -> Painted {
+    // SAFETY: as for a line with a map.
+    unsafe {
+        ffi::tropfenpfad_paint_frame_mapped(
+            memory.as_ptr(),
+            memory.len(),
+            state,
+            frame.as_mut_ptr(),
+            frame.len(),
+            map.as_mut_ptr(),
+            map.len(),
+        )
+    }
+}

@@ -10,15 +10,29 @@ const ALL: u8 = 0x3F;
 const ADDRESS_BITS: [usize; 2] = [0xFFFF, 0x3FFF];
 
 /// The RAM, of which every address reaches a byte.
-#[derive(Clone, Copy)]
-struct Ram<'a> {
-    bytes: &'a [u8],
-    address_bits: usize,
+trait Ram {
+    fn at(&mut self, address: usize) -> u8;
 }
 
-impl Ram<'_> {
-    fn at(self, address: usize) -> u8 {
-        self.bytes[address & self.address_bits]
+/// Bytes, and the address bits that find one of them.
+struct Bytes<'a>(&'a [u8], usize);
+
+impl Ram for Bytes<'_> {
+    fn at(&mut self, address: usize) -> u8 {
+        self.0[address & self.1]
+    }
+}
+
+/// The same, which takes note of each byte that is read.
+struct Noted<'a> {
+    bytes: Bytes<'a>,
+    read: Vec<bool>,
+}
+
+impl Ram for Noted<'_> {
+    fn at(&mut self, address: usize) -> u8 {
+        self.read[address & self.bytes.1] = true;
+        self.bytes.at(address)
     }
 }
 
@@ -32,10 +46,24 @@ struct Registers {
 
 /// Paints one frame of an image and a state that are known to be good.
 pub fn paint_frame(memory: &[u8], state: State, frame: &mut [u8]) -> Painted {
-    let ram = Ram {
-        bytes: memory,
-        address_bits: ADDRESS_BITS[usize::from(state.profile)],
+    paint(&mut bytes(memory, state), state, frame)
+}
+
+/// Paints the same, and says of each byte of the memory whether it was read. A cell is read top to
+/// bottom, and nothing is read that it does not use.
+pub fn paint_frame_noted(memory: &[u8], state: State, frame: &mut [u8]) -> (Painted, Vec<bool>) {
+    let mut ram = Noted {
+        bytes: bytes(memory, state),
+        read: vec![false; memory.len()],
     };
+    (paint(&mut ram, state, frame), ram.read)
+}
+
+fn bytes(memory: &[u8], state: State) -> Bytes<'_> {
+    Bytes(memory, ADDRESS_BITS[usize::from(state.profile)])
+}
+
+fn paint(ram: &mut impl Ram, state: State, frame: &mut [u8]) -> Painted {
     let mut mode = state.mode;
     let mut character = 0;
     for (line, pixels) in frame.chunks_exact_mut(LINE_LENGTH).enumerate() {
@@ -64,7 +92,7 @@ pub fn paint_frame(memory: &[u8], state: State, frame: &mut [u8]) -> Painted {
 
 /// Paints one cell and latches its byte; gives how many character bytes it used.
 fn cell(
-    ram: Ram,
+    ram: &mut impl Ram,
     counter: u8,
     line: usize,
     column: usize,
@@ -119,7 +147,7 @@ fn latch(byte: u8, registers: &mut Registers) {
     }
 }
 
-fn definition(ram: Ram, line: usize, registers: Registers, byte: u8) -> u8 {
+fn definition(ram: &mut impl Ram, line: usize, registers: Registers, byte: u8) -> u8 {
     let set = if registers.mode & 4 != 0 {
         0x9800
     } else {

@@ -1,9 +1,11 @@
-//! Screen addresses, lines and frames.
+//! Screen addresses, lines and frames, and what these use.
 
 mod painter;
 
+use std::ops::Range;
+
 use tropfenpfad_sys::{
-    Address, Painted, State, COLUMNS, FRAME_LENGTH, LINES, LINE_LENGTH, PROFILE_16K,
+    Address, Painted, State, COLUMNS, FRAME_LENGTH, LINES, LINE_LENGTH, MAP_LENGTH, PROFILE_16K,
 };
 
 use super::refusal::{
@@ -127,6 +129,86 @@ impl Video {
             character: total,
         }
     }
+
+    /// Paints one line, and marks what it uses.
+    pub fn paint_line_mapped(
+        &self,
+        memory: &[u8],
+        state: State,
+        line: usize,
+        output: &mut [u8],
+        map: &mut [u8],
+    ) -> Painted {
+        let status = first_of(&[
+            of_profile(state.profile),
+            of_memory(state.profile, memory),
+            of_output(output, LINE_LENGTH),
+            of_output(map, MAP_LENGTH),
+            of_mode(state.mode),
+            of_counter(state.counter),
+            of_line(line),
+        ]);
+        if status != 0 {
+            return refused(status, state);
+        }
+        self.each_used(memory, state, line..line + 1, |address| mark(map, address));
+        self.paint_line(memory, state, line, output)
+    }
+
+    /// Paints one frame, and marks what it uses.
+    pub fn paint_frame_mapped(
+        &self,
+        memory: &[u8],
+        state: State,
+        frame: &mut [u8],
+        map: &mut [u8],
+    ) -> Painted {
+        let status = first_of(&[
+            of_profile(state.profile),
+            of_memory(state.profile, memory),
+            of_output(frame, FRAME_LENGTH),
+            of_output(map, MAP_LENGTH),
+            of_mode(state.mode),
+            of_counter(state.counter),
+        ]);
+        if status != 0 {
+            return refused(status, state);
+        }
+        self.each_used(memory, state, 0..LINES, |address| mark(map, address));
+        self.paint_frame(memory, state, frame)
+    }
+
+    /// The used addresses of some lines of an image, from a state, that are known to be good: in
+    /// painting order, one that is used twice is there twice.
+    pub fn used_addresses(&self, memory: &[u8], state: State, lines: Range<usize>) -> Vec<u16> {
+        let mut addresses = Vec::new();
+        self.each_used(memory, state, lines, |address| {
+            addresses.push(address as u16);
+        });
+        addresses
+    }
+
+    /// Calls with each of these addresses in turn.
+    fn each_used(
+        &self,
+        memory: &[u8],
+        state: State,
+        lines: Range<usize>,
+        mut call: impl FnMut(usize),
+    ) {
+        let start = block_start(state.profile);
+        let block = block(memory, state.profile);
+        let mut mode = state.mode;
+        for line in lines {
+            let painter = &self.painter;
+            mode = painter.used(block, line, mode, |place| call(start + place));
+        }
+    }
+}
+
+/// Sets the bit of an address.
+fn mark(map: &mut [u8], address: usize) {
+    map[address >> 3] |= 1 << (address & 7);
 }
 
 /// Where the block starts: in the 16K machine it is all the RAM.

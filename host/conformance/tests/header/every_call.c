@@ -10,17 +10,23 @@
 
 static uint8_t memory[TROPFENPFAD_IMAGE_LENGTH];
 static uint8_t frame[TROPFENPFAD_FRAME_LENGTH];
+static uint8_t map[TROPFENPFAD_MAP_LENGTH];
 static uint8_t grabbed[TROPFENPFAD_FRAME_LENGTH];
 static uint16_t line_counts[TROPFENPFAD_LINES];
 static uint16_t cells[TROPFENPFAD_LISTED_CELLS];
 
-static void painted(const char *name, tropfenpfad_painted answer) {
+static unsigned long sum_of_bytes(const uint8_t *bytes, size_t length) {
   unsigned long sum = 0;
-  for (size_t i = 0; i < sizeof frame; i++) sum = (sum * 31 + frame[i]) % 1000003;
-  printf("%s %u %u %u %u %lu %lu %lu\n", name, (unsigned)answer.status,
+  for (size_t i = 0; i < length; i++) sum = (sum * 31 + bytes[i]) % 1000003;
+  return sum;
+}
+
+static void painted(const char *name, tropfenpfad_painted answer) {
+  printf("%s %u %u %u %u %lu %lu %lu %lu\n", name, (unsigned)answer.status,
          (unsigned)answer.state.mode, (unsigned)answer.state.counter,
          (unsigned)answer.state.profile, (unsigned long)answer.screen,
-         (unsigned long)answer.character, sum);
+         (unsigned long)answer.character, sum_of_bytes(frame, sizeof frame),
+         sum_of_bytes(map, sizeof map));
 }
 
 static void address_given(tropfenpfad_address place) {
@@ -54,6 +60,18 @@ static void video(size_t length, uint8_t profile) {
   painted("paint_line", tropfenpfad_paint_line(memory, length, state, 224, frame, 240));
   painted("paint_frame", tropfenpfad_paint_frame(memory, length, state, frame, sizeof frame));
   painted("paint_frame", tropfenpfad_paint_frame(memory, 7, state, frame, sizeof frame));
+}
+
+static void video_mapped(size_t length, uint8_t profile) {
+  tropfenpfad_state state = {1, 17, profile};
+  painted("paint_line_mapped", tropfenpfad_paint_line_mapped(memory, length, state, 100, frame,
+                                                             240, map, sizeof map));
+  painted("paint_line_mapped", tropfenpfad_paint_line_mapped(memory, length, state, 101, frame,
+                                                             240, map, sizeof map - 1));
+  painted("paint_frame_mapped", tropfenpfad_paint_frame_mapped(memory, length, state, frame,
+                                                               sizeof frame, map, sizeof map));
+  painted("paint_frame_mapped", tropfenpfad_paint_frame_mapped(memory, length, state, frame,
+                                                               sizeof frame - 1, map, sizeof map));
 }
 
 static void bus(size_t length, uint8_t profile, uint8_t kind) {
@@ -124,6 +142,9 @@ int main(void) {
   video(TROPFENPFAD_IMAGE_LENGTH, TROPFENPFAD_PROFILE_48K);
   video(TROPFENPFAD_IMAGE_LENGTH_16K, TROPFENPFAD_PROFILE_16K);
   video(TROPFENPFAD_IMAGE_LENGTH, 2);
+  video_mapped(TROPFENPFAD_IMAGE_LENGTH, TROPFENPFAD_PROFILE_48K);
+  video_mapped(TROPFENPFAD_IMAGE_LENGTH_16K, TROPFENPFAD_PROFILE_16K);
+  video_mapped(TROPFENPFAD_IMAGE_LENGTH, 2);
   bus(TROPFENPFAD_IMAGE_LENGTH, TROPFENPFAD_PROFILE_48K, TROPFENPFAD_KIND_MICRODISC);
   bus(TROPFENPFAD_IMAGE_LENGTH, TROPFENPFAD_PROFILE_48K, TROPFENPFAD_KIND_JASMIN);
   bus(TROPFENPFAD_IMAGE_LENGTH_16K, TROPFENPFAD_PROFILE_16K, TROPFENPFAD_KIND_NONE);

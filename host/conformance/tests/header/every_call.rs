@@ -8,7 +8,7 @@ use tropfenpfad_conformance::inputs::fresh_of_kind;
 use tropfenpfad_conformance::slips::FARTHEST;
 use tropfenpfad_sys::{
     Access, Latches, Painted, State, FRAME_LENGTH, IMAGE_LENGTH, IMAGE_LENGTH_16K, KIND_JASMIN,
-    KIND_MICRODISC, KIND_NONE, LINE_LENGTH, LISTED_CELLS, PROFILE_16K, PROFILE_48K,
+    KIND_MICRODISC, KIND_NONE, LINE_LENGTH, LISTED_CELLS, MAP_LENGTH, PROFILE_16K, PROFILE_48K,
 };
 
 use crate::cc::{build, succeed};
@@ -19,13 +19,16 @@ fn a_call_from_c_that_answers_otherwise() {
     let program = build(EVERY_CALL, "every_call");
     let printed = succeed(&mut Command::new(program)).stdout;
     let mut memory: Vec<u8> = (0..IMAGE_LENGTH).map(|i| (i * 7 + i / 251) as u8).collect();
-    let mut frame = vec![0; FRAME_LENGTH];
+    let (mut frame, mut map) = (vec![0; FRAME_LENGTH], [0; MAP_LENGTH]);
     let (whole, block) = (IMAGE_LENGTH, IMAGE_LENGTH_16K);
     let expected = [
         fresh(),
         video(&memory[..whole], PROFILE_48K, &mut frame),
         video(&memory[..block], PROFILE_16K, &mut frame),
         video(&memory[..whole], 2, &mut frame),
+        video_mapped(&memory[..whole], PROFILE_48K, &mut frame, &mut map),
+        video_mapped(&memory[..block], PROFILE_16K, &mut frame, &mut map),
+        video_mapped(&memory[..whole], 2, &mut frame, &mut map),
         bus(&mut memory[..whole], PROFILE_48K, KIND_MICRODISC),
         bus(&mut memory[..whole], PROFILE_48K, KIND_JASMIN),
         bus(&mut memory[..block], PROFILE_16K, KIND_NONE),
@@ -47,15 +50,15 @@ fn sum_of<T: Copy + Into<u64>>(list: &[T]) -> u64 {
         .fold(0, |sum, &number| (sum * 31 + number.into()) % 1_000_003)
 }
 
-fn painted(name: &str, answer: Painted, frame: &[u8]) -> String {
-    let sum = sum_of(frame);
+fn painted(name: &str, answer: Painted, frame: &[u8], map: &[u8]) -> String {
+    let [pixels, marks] = [frame, map].map(sum_of);
     let State {
         mode,
         counter,
         profile,
     } = answer.state;
     format!(
-        "{name} {} {mode} {counter} {profile} {} {} {sum}\n",
+        "{name} {} {mode} {counter} {profile} {} {} {pixels} {marks}\n",
         answer.status, answer.screen, answer.character
     )
 }
@@ -83,11 +86,30 @@ fn video(memory: &[u8], profile: u8, frame: &mut [u8]) -> String {
     }
     for line in [100, 224] {
         let answer = calls::paint_line(memory, state, line, &mut frame[..LINE_LENGTH]);
-        text += &painted("paint_line", answer, frame);
+        text += &painted("paint_line", answer, frame, &[]);
     }
     for length in [memory.len(), 7] {
         let answer = calls::paint_frame(&memory[..length], state, frame);
-        text += &painted("paint_frame", answer, frame);
+        text += &painted("paint_frame", answer, frame, &[]);
+    }
+    text
+}
+
+fn video_mapped(memory: &[u8], profile: u8, frame: &mut [u8], map: &mut [u8]) -> String {
+    let state = State {
+        mode: 1,
+        counter: 17,
+        profile,
+    };
+    let mut text = String::new();
+    for (line, marks) in [(100, MAP_LENGTH), (101, MAP_LENGTH - 1)] {
+        let (output, lent) = (&mut frame[..LINE_LENGTH], &mut map[..marks]);
+        let answer = calls::paint_line_mapped(memory, state, line, output, lent);
+        text += &painted("paint_line_mapped", answer, frame, map);
+    }
+    for length in [FRAME_LENGTH, FRAME_LENGTH - 1] {
+        let answer = calls::paint_frame_mapped(memory, state, &mut frame[..length], map);
+        text += &painted("paint_frame_mapped", answer, frame, map);
     }
     text
 }

@@ -74,7 +74,9 @@ fn profiles(facts: &mut Facts) {
 }
 
 fn sizes(facts: &mut Facts) {
-    constants!(facts: IMAGE_LENGTH, IMAGE_LENGTH_16K, COLUMNS, LINES, LINE_LENGTH, FRAME_LENGTH);
+    constants!(
+        facts: IMAGE_LENGTH, IMAGE_LENGTH_16K, COLUMNS, LINES, LINE_LENGTH, FRAME_LENGTH, MAP_LENGTH
+    );
 }
 
 fn refusals(facts: &mut Facts) {

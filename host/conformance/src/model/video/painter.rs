@@ -89,14 +89,8 @@ impl Painter {
         output: &mut Pixels,
     ) -> (u8, u32) {
         let [text, hires] = line_starts(line).map(|start| row(block, start));
-        let work = Line {
-            painter: self,
-            block,
-            colours: &self.colours[usize::from(counter >> 4 & 1)],
-            definitions: &self.definitions[line & 15],
-            bitmap: if line < BITMAP_LINES { 0xFF } else { 0 },
-        };
-        let start = 7 << INK | mode_bits(mode);
+        let work = self.work(block, line, counter);
+        let start = line_reset(mode);
         let first = if start & HIRES == 0 { text } else { hires };
         let (word, used) = if !keeps_mode(first) {
             work.switching(text, hires, start, output)
@@ -109,7 +103,26 @@ impl Painter {
             });
             (word, pictures(first))
         };
-        ((word >> MODE & 7) as u8, used)
+        (mode_of(word), used)
+    }
+
+    /// Calls with the place in the block of each byte that a line uses, in painting order; gives the
+    /// mode that it leaves. Which bytes these are does not hang on the counter.
+    pub(super) fn used(&self, block: &Block, line: usize, mode: u8, call: impl FnMut(usize)) -> u8 {
+        let work = self.work(block, line, 0);
+        mode_of(work.used(line_starts(line), line_reset(mode), call))
+    }
+
+    /// What a line is painted with.
+    #[inline(always)]
+    fn work<'a>(&'a self, block: &'a Block, line: usize, counter: u8) -> Line<'a> {
+        Line {
+            painter: self,
+            block,
+            colours: &self.colours[usize::from(counter >> 4 & 1)],
+            definitions: &self.definitions[line & 15],
+            bitmap: if line < BITMAP_LINES { 0xFF } else { 0 },
+        }
     }
 }
 
@@ -144,16 +157,41 @@ impl Line<'_> {
         let mut used = 0;
         let rows = text.iter().zip(hires);
         for (pixels, (&text, &hires)) in output.chunks_exact_mut(6).zip(rows) {
-            let in_hires = (word as i32 >> 24) as Word;
-            let byte = text ^ (text ^ hires) & in_hires as u8;
-            let own = self.bitmap & in_hires as u8;
-            let (after_text, after_hires) = (self.latched(word, text), self.latched(word, hires));
-            word = after_text ^ (after_text ^ after_hires) & in_hires;
+            let (byte, own, after) = self.chosen(word, text, hires);
+            word = after;
             let definition = self.definition(word, byte);
             self.put(pixels, word, byte, definition ^ (definition ^ byte) & own);
             used += u32::from(self.painter.drawn[usize::from(byte)] & !own & 1);
         }
         (word, used)
+    }
+
+    /// Of the candidates for the next byte the one that the mode in force leaves, all ones if it is
+    /// its own pattern, and the registers once it is latched.
+    #[inline(always)]
+    fn chosen(&self, word: Word, text: u8, hires: u8) -> (u8, u8, Word) {
+        let in_hires = (word as i32 >> 24) as Word;
+        let byte = text ^ (text ^ hires) & in_hires as u8;
+        let own = self.bitmap & in_hires as u8;
+        let [after_text, after_hires] = [text, hires].map(|byte| self.latched(word, byte));
+        let after = after_text ^ (after_text ^ after_hires) & in_hires;
+        (byte, own, after)
+    }
+
+    /// Follows the cells without painting them: calls with the place of each screen byte, and of
+    /// the definition after it if the byte is drawn by one. Gives the registers afterwards.
+    #[inline(always)]
+    fn used(&self, starts: [usize; 2], mut word: Word, mut call: impl FnMut(usize)) -> Word {
+        let [text, hires] = starts.map(|start| row(self.block, start));
+        for (column, (&text, &hires)) in text.iter().zip(hires).enumerate() {
+            call(starts[(word >> 31) as usize] + column);
+            let (byte, own, after) = self.chosen(word, text, hires);
+            word = after;
+            if self.painter.drawn[usize::from(byte)] & !own != 0 {
+                call(self.definition_place(word, byte));
+            }
+        }
+        word
     }
 
     /// The registers once a screen byte is latched; a picture leaves them.
@@ -166,8 +204,14 @@ impl Line<'_> {
     /// then not drawn.
     #[inline(always)]
     fn definition(&self, word: Word, byte: u8) -> u8 {
+        self.block[self.definition_place(word, byte)]
+    }
+
+    /// Where that byte stands in the block.
+    #[inline(always)]
+    fn definition_place(&self, word: Word, byte: u8) -> usize {
         let base = self.definitions[(word >> ALTERNATE) as usize & 31];
-        self.block[(usize::from(base) + 8 * usize::from(byte & 0x7F)) & 0x3FFF]
+        (usize::from(base) + 8 * usize::from(byte & 0x7F)) & 0x3FFF
     }
 
     /// Six pixels, from the registers that the cell's own byte has left.
@@ -198,6 +242,15 @@ fn effect(byte: u8) -> (Word, Word) {
 
 fn mode_bits(mode: u8) -> Word {
     Word::from(mode) << MODE | if mode & 4 != 0 { HIRES } else { 0 }
+}
+
+fn mode_of(word: Word) -> u8 {
+    (word >> MODE & 7) as u8
+}
+
+/// The registers at the start of a line.
+fn line_reset(mode: u8) -> Word {
+    7 << INK | mode_bits(mode)
 }
 
 /// Whether no byte of a row sets the mode.
