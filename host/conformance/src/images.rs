@@ -75,6 +75,23 @@ pub fn image(profile: u8, kind: Kind, seed: u64) -> Vec<u8> {
     memory
 }
 
+/// An image of zeros but for the bytes that some addresses reach.
+pub fn with_bytes(profile: u8, bytes: &[(usize, u8)]) -> Vec<u8> {
+    let mut memory = vec![0; image_length(profile)];
+    for &(address, byte) in bytes {
+        fill(&mut memory, address..address + 1, byte);
+    }
+    memory
+}
+
+/// Fills the bytes that these addresses reach.
+pub fn fill(memory: &mut [u8], addresses: Range<usize>, byte: u8) {
+    let length = memory.len();
+    for address in addresses {
+        memory[address % length] = byte;
+    }
+}
+
 /// Turns a random byte into one that suits the kind; `choice` is a second random byte.
 fn shaped(kind: Kind, byte: u8, choice: u8) -> u8 {
     let attribute = byte & 0x9F;

@@ -13,6 +13,7 @@ pub mod files;
 pub mod guarded;
 pub mod images;
 pub mod inputs;
+pub mod maps;
 pub mod model;
 pub mod random;
 pub mod refusals;

@@ -8,12 +8,13 @@ use std::collections::{BTreeMap, BTreeSet};
 use tropfenpfad::Refusal;
 use tropfenpfad_sys::{
     self as ffi, Latches, State, FRAME_LENGTH, IMAGE_LENGTH, IMAGE_LENGTH_16K, LINE_LENGTH,
-    LISTED_CELLS,
+    LISTED_CELLS, MAP_LENGTH,
 };
 
 use crate::inputs::{random_bytes, random_numbers};
 
 /// Values to hand over, right ones and wrong ones.
+#[derive(Clone, Copy)]
 pub struct Values<T: 'static> {
     pub right: &'static [T],
     pub wrong: &'static [T],
@@ -68,6 +69,19 @@ pub const FRAME_OUTPUTS: Values<usize> = Values {
         IMAGE_LENGTH,
     ],
 };
+/// The right length in either profile; the bits of the 16K machine's addresses alone are 2,048 bytes.
+const MAPS: Values<usize> = Values {
+    right: &[MAP_LENGTH],
+    wrong: &[
+        0,
+        1,
+        IMAGE_LENGTH_16K / 8,
+        MAP_LENGTH - 1,
+        MAP_LENGTH + 1,
+        MAP_LENGTH + 256,
+        IMAGE_LENGTH,
+    ],
+};
 pub const MODES: Values<u8> = Values {
     right: &[0, 2, 7],
     wrong: &[8, 12, 128, 255],
@@ -79,6 +93,11 @@ pub const COUNTERS: Values<u8> = Values {
 pub const LINES: Values<usize> = Values {
     right: &[0, 199, 223],
     wrong: &[224, 225, 256, 0x1_0000, 0x1_0000_0000, usize::MAX],
+};
+/// For a frame, which takes no line.
+pub const NO_LINES: Values<usize> = Values {
+    right: &[0],
+    wrong: &[],
 };
 pub const COLUMNS: Values<usize> = Values {
     right: &[0, 39],
@@ -214,6 +233,56 @@ pub fn states() -> impl Iterator<Item = (State, [bool; 3])> {
                     profile,
                 };
                 (state, [bad_profile, bad_mode, bad_counter])
+            })
+        })
+    })
+}
+
+/// What a painter with a map is handed over; of the lent buffers, their lengths.
+#[derive(Clone, Copy, Debug)]
+pub struct Mapped {
+    pub memory: usize,
+    pub state: State,
+    pub line: usize,
+    pub picture: usize,
+    pub map: usize,
+}
+
+/// Inputs of a painter with a map, two of them wrong at most, and which are wrong: profile, memory,
+/// picture, map, mode, counter, line.
+pub fn mapped(pictures: Values<usize>, lines: Values<usize>) -> Vec<(Mapped, [bool; 7])> {
+    let mut inputs = Vec::new();
+    for (state, [profile, mode, counter]) in states() {
+        for (lent, [memory, picture, map]) in mapped_lengths(state.profile, pictures) {
+            for (line, bad_line) in lines.each() {
+                let wrong = [profile, memory, picture, map, mode, counter, bad_line];
+                if wrong.iter().filter(|bad| **bad).count() <= 2 {
+                    let [memory, picture, map] = lent;
+                    let handed_over = Mapped {
+                        memory,
+                        state,
+                        line,
+                        picture,
+                        map,
+                    };
+                    inputs.push((handed_over, wrong));
+                }
+            }
+        }
+    }
+    inputs
+}
+
+/// Lengths of memory, a picture and a map, and which are wrong.
+fn mapped_lengths(
+    profile: u8,
+    pictures: Values<usize>,
+) -> impl Iterator<Item = ([usize; 3], [bool; 3])> {
+    memories(profile).flat_map(move |memory| {
+        pictures.each().flat_map(move |picture| {
+            MAPS.each().map(move |map| {
+                let lent = [memory, picture, map];
+                (lent.map(|(length, _)| length), lent.map(|(_, bad)| bad))
             })
         })
     })

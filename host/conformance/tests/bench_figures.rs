@@ -2,20 +2,16 @@
 
 use tropfenpfad::{
     decode, fresh_latches, fresh_state, paint_frame, paint_line, screen_address, Latches, Refusal,
-    State, Target, FRAME_LENGTH, IMAGE_LENGTH, KIND_MICRODISC, LINE_LENGTH, PROFILE_16K,
-    PROFILE_48K,
+    State, Target, FRAME_LENGTH, KIND_MICRODISC, LINE_LENGTH, PROFILE_16K, PROFILE_48K,
 };
+use tropfenpfad_conformance::images;
 
 const TEXT: u8 = 2;
 const HIRES: u8 = 6;
 
-/// An image of zeros but for some bytes.
+/// An image of the 48K machine: zeros but for some bytes.
 fn memory_with(bytes: &[(usize, u8)]) -> Vec<u8> {
-    let mut memory = vec![0; IMAGE_LENGTH];
-    for &(address, byte) in bytes {
-        memory[address] = byte;
-    }
-    memory
+    images::with_bytes(PROFILE_48K, bytes)
 }
 
 /// The six pixels of a cell.

@@ -2,18 +2,19 @@
 //! alike, and nothing else is mirrored. Each test is named after a machine that this one is not.
 
 use tropfenpfad::{
-    decode, fresh_latches, paint_frame, paint_line, read, screen_address, write, Painting, Place,
-    Target,
+    decode, fresh_latches, paint_frame, paint_frame_mapped, paint_line, read, screen_address,
+    write, Painting, Place, Target,
 };
 use tropfenpfad_conformance::buffers::assert_same_bytes;
 use tropfenpfad_conformance::images::{self, Kind, VIDEO_BLOCK};
 use tropfenpfad_conformance::inputs::{
     fresh_of_profile, in_each_profile, random_bytes, start_states,
 };
+use tropfenpfad_conformance::maps::assert_same_marks;
 use tropfenpfad_conformance::random::Xorshift;
 use tropfenpfad_sys::{
-    State, COLUMNS, FRAME_LENGTH, IMAGE_LENGTH, IMAGE_LENGTH_16K, LINES, LINE_LENGTH, PROFILE_16K,
-    PROFILE_48K,
+    State, COLUMNS, FRAME_LENGTH, IMAGE_LENGTH, IMAGE_LENGTH_16K, LINES, LINE_LENGTH, MAP_LENGTH,
+    PROFILE_16K, PROFILE_48K,
 };
 
 const TEXT: u8 = 2;
@@ -278,6 +279,25 @@ fn a_picture_that_is_not_that_of_8000_to_bfff() {
         }
     }
     println!("the block from 8000: {frames} frames and {lines} lines compared");
+}
+
+#[test]
+fn a_map_that_is_not_that_of_8000_to_bfff() {
+    let mut frames = 0;
+    for kind in Kind::ALL {
+        for (index, state) in (0..).zip(start_states(PROFILE_16K)) {
+            let mut machines = Machines::new(kind, 8_000_000 + index);
+            let [first, second] = &mut machines.frames;
+            let [mut small, mut large] = [[0; MAP_LENGTH]; 2];
+            paint_frame_mapped(&machines.small, state, first, &mut small).unwrap();
+            paint_frame_mapped(&machines.large, in_48k(state), second, &mut large).unwrap();
+            // The bits of 8000 on are those of 0000 on.
+            small.rotate_right(VIDEO_BLOCK.start / 8);
+            assert_same_marks(&format!("{kind:?} image from {state:?}"), &small, &large);
+            frames += 1;
+        }
+    }
+    println!("maps of the block from 8000: {frames} frames compared");
 }
 
 #[test]

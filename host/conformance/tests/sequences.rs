@@ -1,12 +1,10 @@
 //! Frames one after another, the state handed on, the memory changed over the bus between them.
 
-use std::ops::Range;
-
 use tropfenpfad::paint_frame;
 use tropfenpfad_conformance::accesses::{Form, Step, TwoBuses};
 use tropfenpfad_conformance::buffers::assert_same_bytes;
 use tropfenpfad_conformance::calls;
-use tropfenpfad_conformance::images::{self, Kind};
+use tropfenpfad_conformance::images::{self, fill, Kind};
 use tropfenpfad_conformance::inputs::{
     all_states, fresh_of_profile, image_length, in_each_profile, random_latches, MODES,
 };
@@ -121,14 +119,6 @@ fn image_that_ends_in_hires(profile: u8) -> Vec<u8> {
     fill(&mut memory, 0xBB80..0xBFE0, 0x41);
     memory[screen_byte(profile)] = HIRES_50_HZ;
     memory
-}
-
-/// Fills the bytes that these addresses reach.
-fn fill(memory: &mut [u8], addresses: Range<usize>, byte: u8) {
-    let length = memory.len();
-    for address in addresses {
-        memory[address % length] = byte;
-    }
 }
 
 /// Where the last screen byte of a frame stands in the memory.
