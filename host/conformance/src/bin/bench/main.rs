@@ -6,6 +6,7 @@ mod compare;
 mod contest;
 mod frames;
 mod frames_16k;
+mod frames_mapped;
 mod growth;
 mod head;
 mod row;
@@ -19,6 +20,7 @@ fn main() {
     head::print();
     frames::print();
     frames_16k::print();
+    frames_mapped::print();
     let rows = Rows::begin();
     video::rows(&rows);
     bus::rows(&rows);

@@ -1,4 +1,4 @@
-//! Screen addresses and lines.
+//! Screen addresses and lines, with a map and without one.
 
 use std::hint::black_box;
 
@@ -6,7 +6,7 @@ use tropfenpfad_conformance::calls;
 use tropfenpfad_conformance::images::{self, Kind};
 use tropfenpfad_conformance::inputs::{fresh_of_profile, MODES};
 use tropfenpfad_conformance::model::Video;
-use tropfenpfad_sys::{COLUMNS, LINES, LINE_LENGTH, PROFILE_16K, PROFILE_48K};
+use tropfenpfad_sys::{COLUMNS, LINES, LINE_LENGTH, MAP_LENGTH, PROFILE_16K, PROFILE_48K};
 
 use crate::row::{Row, Rows};
 
@@ -16,6 +16,8 @@ pub fn rows(rows: &Rows) {
     screen_addresses(rows, "screen address, 16K machine", &video, PROFILE_16K);
     lines(rows, "every line of a text image", &video, PROFILE_48K);
     lines(rows, "every line, 16K machine", &video, PROFILE_16K);
+    lines_mapped(rows, "every line with a map", &video, PROFILE_48K);
+    lines_mapped(rows, "with a map, 16K machine", &video, PROFILE_16K);
 }
 
 /// Every line and column with every mode.
@@ -58,6 +60,26 @@ fn lines(rows: &Rows, name: &str, video: &Video, profile: u8) {
         model: &|output| {
             for line in 0..LINES {
                 black_box(video.paint_line(&memory, state, line, output));
+            }
+        },
+    });
+}
+
+fn lines_mapped(rows: &Rows, name: &str, video: &Video, profile: u8) {
+    let memory = images::image(profile, Kind::Text, 1);
+    let state = fresh_of_profile(profile);
+    rows.add(Row {
+        name,
+        answers: LINES,
+        lent: ([0; LINE_LENGTH], [0; MAP_LENGTH]),
+        library: &|(output, map)| {
+            for line in 0..LINES {
+                black_box(calls::paint_line_mapped(&memory, state, line, output, map));
+            }
+        },
+        model: &|(output, map)| {
+            for line in 0..LINES {
+                black_box(video.paint_line_mapped(&memory, state, line, output, map));
             }
         },
     });
