@@ -13,11 +13,10 @@ use borrow.Author.Tests.{eqb-true, eqb-false, ne-eqb, ltb-true, ltb-false}
 use borrow.Rule.Slice.PartMut.{putMid, same-len-mid}
 use Rattle.machine.specs.Bits.{bit, ofBits}
 use Rattle.machine.specs.Lists.{gather, Each, isIn}
-use Rattle.machine.proofs.Bits.{bits-same, bit-of-bits, byte-of-bits, byte-with-bit}
+use Rattle.machine.proofs.Bits.{bits-same, bits-below, bit-of-bits, byte-of-bits, byte-with-bit}
 use Rattle.machine.proofs.Choice.{eqb-same}
 use Rattle.machine.proofs.Each.{each-map}
 use Rattle.machine.proofs.Lists.{singles-length, singles-at, in-append, in-none, in-moved, put-before, put-inside, put-after}
-use Rattle.video.specs.Internal.{withBit}
 use Rattle.video.specs.Laws.{MarkedExactly, MarksJoin}
 use Rattle.video.specs.Map.{byteBits, isMarked, markedByte, marked}
 
@@ -82,6 +81,12 @@ module _ (lent : List ℕ) (bytes : Bytes lent) (address : ℕ) where
   abbrev place : ℕ
   place = address / byteBits
 
+  abbrev byte : ℕ
+  byte = getD lent place 0
+
+  abbrev weight : ℕ
+  weight = 2 ^ (address % byteBits)
+
   alone : (n : ℕ) → isIn n (address ∷ []) ≡ eqb n address
   unfolding isIn
   alone n = or-false (eqb n address)
@@ -91,27 +96,40 @@ module _ (lent : List ℕ) (bytes : Bytes lent) (address : ℕ) where
       kept (address ∷ []) k (getD lent k 0) (bytes k)
       (λ b hb. alone (byteBits * k + b) ∙ ne-eqb (byteBits * k + b) address (λ e. other (omega arith)))
 
-  abbrev byte : ℕ
-  byte = withBit (getD lent place 0) (address % byteBits)
-
-  there : byte ≡ markedByte (address ∷ []) place (getD lent place 0)
+  there : markedByte (address ∷ []) place byte ≡ cond (isMarked lent address) byte (byte + weight)
   there =
       bits-same _ _ byteBits (λ b hb.
-      ap (λ (used : Bool). bit (2 ^ b) (getD lent place 0) || used)
-      (eqb-same b (address % byteBits) (byteBits * place + b) address (λ e. omega arith) (λ e. omega arith) ∙ sym (alone (byteBits * place + b))))
+      ap (λ (used : Bool). bit (2 ^ b) byte || used)
+      (alone (byteBits * place + b) ∙ eqb-same (byteBits * place + b) address b (address % byteBits) (λ e. omega arith) (λ e. omega arith)))
+      ∙ byte-with-bit byte (address % byteBits) (bytes place) (omega arith)
 
-  -- is set where the map has its byte
-  pub marked-one : place < length lent → set lent place byte ≡ marked lent (address ∷ [])
-  marked-one inside =
-      as-marked lent (address ∷ []) (set lent place byte) (length-set lent place byte) (λ k h. go k (eqb k place) refl)
+  -- a list is the map with its bit set where it has that byte so, and every other byte as it was
+  with-bit : (other : List ℕ) → length other ≡ length lent → ((k : ℕ) → (k ≡ place → ⊥) → getD other k 0 ≡ getD lent k 0)
+      → (place < length lent → getD other place 0 ≡ cond (isMarked lent address) byte (byte + weight)) → other ≡ marked lent (address ∷ [])
+  with-bit other size apart here = as-marked lent (address ∷ []) other size (λ k h. go k h (eqb k place) refl)
     where
-      go : (k : ℕ) (here : Bool) → eqb k place ≡ here → getD (set lent place byte) k 0 ≡ markedByte (address ∷ []) k (getD lent k 0)
-      go k true e = rw (eqb-true k place e) (getD-set-same lent place byte 0 inside ∙ there)
-      go k false e = getD-set-other lent place k byte 0 (eqb-false k place e) ∙ elsewhere k (eqb-false k place e)
+      go : (k : ℕ) → k < length lent → (same : Bool) → eqb k place ≡ same → getD other k 0 ≡ markedByte (address ∷ []) k (getD lent k 0)
+      go k h true e = let is = eqb-true k place e in rw is (here (omega arith) ∙ sym there)
+      go k h false e = apart k (eqb-false k place e) ∙ elsewhere k (eqb-false k place e)
 
-  -- and changes nothing where it has not
+  -- the weight is added where the bit is not set
+  pub marked-added : place < length lent → isMarked lent address ≡ false → set lent place (byte + weight) ≡ marked lent (address ∷ [])
+  marked-added inside clear =
+      with-bit (set lent place (byte + weight)) (length-set lent place (byte + weight))
+      (λ k other. getD-set-other lent place k (byte + weight) 0 other)
+      (λ h. getD-set-same lent place (byte + weight) 0 inside ∙ simp clear)
+
+  pub added-small : isMarked lent address ≡ false → byte + weight < 256
+  added-small clear =
+      let is : markedByte (address ∷ []) place byte ≡ byte + weight = there ∙ simp clear in
+      rw (← is) (bits-below (λ (b : ℕ). bit (2 ^ b) byte || isIn (byteBits * place + b) (address ∷ [])) byteBits)
+
+  -- nothing changes where it is, or where the map has not its byte
+  pub marked-already : isMarked lent address ≡ true → lent ≡ marked lent (address ∷ [])
+  marked-already is = with-bit lent refl (λ k other. refl) (λ h. simp is)
+
   pub marked-outside : length lent ≤ place → lent ≡ marked lent (address ∷ [])
-  marked-outside outside = as-marked lent (address ∷ []) lent refl (λ k h. elsewhere k (λ e. omega arith))
+  marked-outside outside = with-bit lent refl (λ k other. refl) (λ h. absurd (omega arith))
 
 -- n bytes of a map from a byte on are lent, and marked with addresses that are counted from there
 module _ (from n : ℕ) (lent addresses : List ℕ) (bytes : Bytes lent) (fits : from + n ≤ length lent) (inside : Each (λ (a : ℕ). a < byteBits * n) addresses) where

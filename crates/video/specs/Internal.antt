@@ -1,18 +1,17 @@
 -- What only the contracts of functions inside the crate cite; no promise to others rests on this page.
 -- Assumes nothing.
-use Prim.Native.Nat.{ℕ, zero, suc, _+_, _-_, _*_, _/_, _%_, _^_}
-use mathlib.Core.Bool.{cond, _||_}
+use Prim.Native.Nat.{ℕ, zero, suc, _+_, _-_, _*_, _/_, _%_}
+use mathlib.Core.Bool.{cond}
 use mathlib.Core.List.{List, [], _∷_, _++_, map, Option·toList}
 use mathlib.Core.Option.{Option·getD}
 use lib.Dec.{eqb}
 use lib.ListN.{length, take, drop}
-use Rattle.machine.specs.Bits.{bit, ofBits}
+use Rattle.machine.specs.Bits.{bit}
 use Rattle.machine.specs.Image.{Image, blockLength, folded}
 use Rattle.machine.specs.Sizes.{columns}
 use Rattle.video.specs.Address.{videoBlock, textStart, hiresStart}
 use Rattle.video.specs.Cell.{Cell, screenAddresses, characterAddresses}
 use Rattle.video.specs.Line.{registersBefore, lineCells}
-use Rattle.video.specs.Map.{byteBits}
 use Rattle.video.specs.Pattern.{patternWeights, patternColours, complemented}
 use Rattle.video.specs.Ram.{Ram}
 use Rattle.video.specs.Registers.{shownInk}
@@ -96,7 +95,3 @@ spreadWord pattern = wordOf (gapped (map (λ (weight : ℕ). cond (bit weight pa
 -- the bytes of a map that have the bits of the block
 abbrev pub blockMarks : ℕ
 blockMarks = 2048
-
--- a byte with one of its bits set
-abbrev pub withBit : ℕ → ℕ → ℕ
-withBit byte number = ofBits (λ (b : ℕ). bit (2 ^ b) byte || eqb b number) byteBits

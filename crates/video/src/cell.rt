@@ -6,7 +6,6 @@ ghost use Rattle.machine.specs.Sizes.{columns, lines};
 ghost use Rattle.video.specs.Cell.{cell};
 ghost use Rattle.video.specs.Internal.{blockRam, scanline, paintedCell};
 use crate::address::Scanline;
-use crate::bits::choose;
 use crate::registers::Registers;
 use crate::registers::is_attribute;
 use machine::choose_address;
@@ -55,7 +54,7 @@ pub(crate) fn paint_cell(
         registers: before,
         colours: before.paint_colours(counter, block[pattern], byte),
         screen,
-        character: choose(bitmap, 0, 1),
+        character: line.character_bytes(before.mode),
         pattern,
     }
 }

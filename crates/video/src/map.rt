@@ -1,10 +1,10 @@
 // The map of used addresses: a bit for each address, bit 0 of byte 0 is address 0.
 ghost use mathlib.Core.Path.{_≡_};
 ghost use mathlib.Core.List.{[], _∷_};
-ghost use Prim.Native.Nat.{_≤_, _<_, _+_, _/_};
+ghost use Prim.Native.Nat.{_≤_, _<_, _+_, _/_, _^_};
 ghost use Rattle.machine.specs.Image.{folded};
 ghost use Rattle.video.specs.Address.{videoBlock};
-ghost use Rattle.video.specs.Internal.{usedBy, blockMarks, withBit};
+ghost use Rattle.video.specs.Internal.{usedBy, blockMarks};
 ghost use Rattle.video.specs.Map.{byteBits, mapLength, marked};
 use crate::address::BLOCK;
 use crate::cell::PaintedCell;
@@ -37,25 +37,23 @@ pub(crate) fn mark_cell(map: &mut [u8], cell: PaintedCell)
     }
 }
 
-// One address, where the map has its byte.
+// One address, where the map has its byte: the weight of its bit is added where the bit is not set.
 fn mark(map: &mut [u8], address: usize)
     ensures { λ r. ⌜ now (map .exit) ≡ marked (now (map .entry)) (address ∷ []) ⌝ }
 {
     let place = address / BYTE_BITS;
     if place < map.len() {
         let byte = map[place];
-        map[place] = with_bit(byte, address % BYTE_BITS);
+        let weight = bit_weight(address % BYTE_BITS);
+        if byte / weight % 2 == 0 {
+            map[place] = byte + weight;
+        }
     }
 }
 
-// The weight of a bit is added where the bit is not set.
-fn with_bit(byte: u8, number: usize) -> u8
+fn bit_weight(number: usize) -> u8
     requires { ⌜ number < byteBits ⌝ }
-    ensures { λ r. ⌜ r ≡ withBit byte number ⌝ }
+    ensures { λ r. ⌜ r ≡ 2 ^ number ⌝ }
 {
-    let weight = 1u8 << number;
-    if byte / weight % 2 == 1 {
-        return byte;
-    }
-    byte + weight
+    1 << number
 }
