@@ -35,22 +35,18 @@ fn frame(profile: u8, i: u8) {
 
 fn frame_48k(i: u8) {
     let mut image = [0u8; IMAGE_LENGTH];
-    fill(&mut image, i % KINDS, mixing::seed(i));
+    fill_as(&mut image, i);
     painted(PROFILE_48K, i, &image);
 }
 
 fn frame_16k(i: u8) {
     let mut image = [0u8; IMAGE_LENGTH_16K];
-    fill(&mut image, i % KINDS, mixing::seed(i));
+    fill_as(&mut image, i);
     painted(PROFILE_16K, i, &image);
 }
 
 fn painted(profile: u8, i: u8, image: &[u8]) {
-    let state = State {
-        mode: i / 4 % 8,
-        counter: counter_of(i / 32 % 4),
-        profile,
-    };
+    let state = state_of(profile, i);
     let mut pixels = [0u8; FRAME_LENGTH];
     let answer = video::paint_frame(image, state, &mut pixels);
     let after = answer.state;
@@ -64,6 +60,20 @@ fn painted(profile: u8, i: u8, image: &[u8]) {
     report::field(b" character ", answer.character as u64);
     report::digest(mixing::digest(&pixels));
     report::end();
+}
+
+// The state that image i is painted from.
+pub(crate) fn state_of(profile: u8, i: u8) -> State {
+    State {
+        mode: i / 4 % 8,
+        counter: counter_of(i / 32 % 4),
+        profile,
+    }
+}
+
+// The bytes of image i.
+pub(crate) fn fill_as(image: &mut [u8], i: u8) {
+    fill(image, i % KINDS, mixing::seed(i));
 }
 
 fn report_state(state: State) {

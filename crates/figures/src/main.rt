@@ -1,9 +1,10 @@
 // The figures of document 01 that are run, the decode of every address, and digests of generated frames, a line each; then the same
-// of the 16K machine; then comparisons of frames, slips of lines, and the card of line starts.
+// of the 16K machine; then maps of used addresses, comparisons of frames, slips of lines, and the card of line starts.
 mod card;
 mod comparing;
 mod decoding;
 mod generated;
+mod mapping;
 mod mixing;
 mod painting;
 mod report;
@@ -21,6 +22,10 @@ fn main() {
     painting::profiles();
     decoding::settings_16k();
     generated::frames(PROFILE_16K);
+    mapping::images(PROFILE_48K);
+    mapping::images(PROFILE_16K);
+    mapping::lines();
+    mapping::lengths();
     comparing::pairs();
     comparing::lengths();
     slipping::moves();

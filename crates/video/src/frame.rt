@@ -35,14 +35,8 @@ pub fn paint_frame(memory: &[u8], state: State, frame: &mut [u8]) -> Painted
     ensures { λ r. ⌜ now (frame .exit) ≡ frameContents (now (memory .entry)) state (now (frame .entry)) ⌝ }
 {
     let profile = state.profile;
-    let wrong_state = state_refusal(state, DONE);
-    let status = picture_refusal(
-        profile,
-        memory.len(),
-        FRAME_LENGTH,
-        frame.len(),
-        wrong_state,
-    );
+    let later = state_refusal(state, DONE);
+    let status = picture_refusal(profile, memory.len(), FRAME_LENGTH, frame.len(), later);
     if status != DONE {
         return refused(status, state);
     }
@@ -64,12 +58,8 @@ pub fn paint_frame_mapped(memory: &[u8], state: State, frame: &mut [u8], map: &m
     }
     let from = block_marks(profile);
     let end = from + BLOCK_MARKS;
-    fill_frame(
-        video_block(memory, profile),
-        state,
-        frame,
-        &mut map[from..end],
-    )
+    let block = video_block(memory, profile);
+    fill_frame(block, state, frame, &mut map[from..end])
 }
 
 // Painted from the block of the memory that video reads.

@@ -47,14 +47,8 @@ pub fn paint_line(memory: &[u8], state: State, line: usize, output: &mut [u8]) -
     ensures { λ r. ⌜ now (output .exit) ≡ lineContents (now (memory .entry)) state line (now (output .entry)) ⌝ }
 {
     let profile = state.profile;
-    let wrong_state = state_refusal(state, line_refusal(line, DONE));
-    let status = picture_refusal(
-        profile,
-        memory.len(),
-        LINE_LENGTH,
-        output.len(),
-        wrong_state,
-    );
+    let later = state_refusal(state, line_refusal(line, DONE));
+    let status = picture_refusal(profile, memory.len(), LINE_LENGTH, output.len(), later);
     if status != DONE {
         return refused(status, state);
     }
@@ -89,13 +83,8 @@ pub fn paint_line_mapped(
     }
     let from = block_marks(profile);
     let end = from + BLOCK_MARKS;
-    fill_single(
-        video_block(memory, profile),
-        state,
-        line,
-        output,
-        &mut map[from..end],
-    )
+    let block = video_block(memory, profile);
+    fill_single(block, state, line, output, &mut map[from..end])
 }
 
 // A line by itself, which begins in the mode of the state, from the block of the memory that video reads.

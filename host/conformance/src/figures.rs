@@ -4,7 +4,7 @@ use std::fmt::Write;
 
 use tropfenpfad_sys::{
     Latches, Painted, Slip, State, FRAME_LENGTH, IMAGE_LENGTH, IMAGE_LENGTH_16K, LINES,
-    LINE_LENGTH, LISTED_CELLS, PROFILE_16K, PROFILE_48K,
+    LINE_LENGTH, LISTED_CELLS, MAP_LENGTH, PROFILE_16K, PROFILE_48K,
 };
 
 use crate::inputs::image_length;
@@ -51,6 +51,11 @@ const PROFILE_MEMORIES: [(u8, usize); 7] = [
     (2, IMAGE_LENGTH),
 ];
 
+/// Generated images of each profile whose used addresses are marked in one map.
+const MAPPED: u64 = 8;
+/// Lengths of maps, on both sides of the right one.
+const MAPS: [usize; 3] = [MAP_LENGTH - 1, MAP_LENGTH, MAP_LENGTH + 1];
+
 /// Out of 65,536 pixels of a generated pair of frames, so many differ on the mean.
 const DIFFERING: [u64; 8] = [0, 1, 8, 64, 512, 4096, 32_768, 65_536];
 /// Lengths of frames and lists, of each quadruple one wrong.
@@ -77,7 +82,7 @@ const HALVES: [(&str, u8); 2] = [("text", 2), ("hires", 6)];
 const CARD_ROW: usize = 8;
 
 /// All lines, each ended by a line feed: limits, decodes and images of the 48K machine, then of the
-/// 16K machine, whose lines begin with the profile, then comparisons, slips, and the card.
+/// 16K machine, whose lines begin with the profile, then maps, comparisons, slips, and the card.
 pub fn lines() -> String {
     let (video, bus) = (Video::new(), Bus::new());
     let mut text = String::new();
@@ -110,6 +115,18 @@ pub fn lines() -> String {
             "profile {PROFILE_16K} {}",
             image_line(&video, PROFILE_16K, image)
         );
+    }
+    for profile in [PROFILE_48K, PROFILE_16K] {
+        let mut map = vec![0; MAP_LENGTH];
+        for image in 0..MAPPED {
+            text += &map_image_line(&video, profile, image, &mut map);
+        }
+    }
+    for line in [223, 224] {
+        text += &map_line_line(&video, line);
+    }
+    for length in MAPS {
+        text += &map_length_line(&video, length);
     }
     for (number, limit) in (0..).zip(DIFFERING) {
         text += &comparison_line(number, limit);
@@ -186,28 +203,84 @@ fn decode_line(model: &Bus, profile: u8, (kind, first, second): (u8, u8, u8)) ->
 
 fn image_line(model: &Video, profile: u8, image: u64) -> String {
     let kind = image % 4;
-    let state = State {
-        mode: (image / 4 % 8) as u8,
-        counter: COUNTERS[(image / 32 % 4) as usize],
-        profile,
-    };
+    let state = state_of(profile, image);
     let memory = generate(image, image_length(profile));
     let mut frame = vec![0; FRAME_LENGTH];
     let painted = model.paint_frame(&memory, state, &mut frame);
-    let mut digest = Digest::new();
-    digest.take(&frame);
+    let digest = digest_of_bytes(&frame);
     format!(
         "image {image} kind {kind} mode {} counter {}: status {} mode {} counter {} \
-         screen {} character {} digest {:016x}\n",
+         screen {} character {} digest {digest:016x}\n",
         state.mode,
         state.counter,
         painted.status,
         painted.state.mode,
         painted.state.counter,
         painted.screen,
-        painted.character,
-        digest.0
+        painted.character
     )
+}
+
+/// The state that a generated image is painted from.
+fn state_of(profile: u8, image: u64) -> State {
+    State {
+        mode: (image / 4 % 8) as u8,
+        counter: COUNTERS[(image / 32 % 4) as usize],
+        profile,
+    }
+}
+
+/// Marks what a generated image used in a map that has the marks of those before it.
+fn map_image_line(model: &Video, profile: u8, image: u64, map: &mut [u8]) -> String {
+    let memory = generate(image, image_length(profile));
+    let mut frame = vec![0; FRAME_LENGTH];
+    let painted = model.paint_frame_mapped(&memory, state_of(profile, image), &mut frame, map);
+    let machine = match profile {
+        PROFILE_48K => String::new(),
+        _ => format!("profile {profile} "),
+    };
+    format!(
+        "{machine}map image {image}: status {} character {} marked {} digest {:016x}\n",
+        painted.status,
+        painted.character,
+        marked(map),
+        digest_of_bytes(map)
+    )
+}
+
+/// Marks what one line of an image of zeros used from the fresh state.
+fn map_line_line(model: &Video, line: usize) -> String {
+    let (memory, state) = (vec![0; IMAGE_LENGTH], model.fresh_state());
+    let (mut output, mut map) = ([0; LINE_LENGTH], [0; MAP_LENGTH]);
+    let painted = model.paint_line_mapped(&memory, state, line, &mut output, &mut map);
+    let marked = marked(&map);
+    format!(
+        "map line {line}: status {} marked {marked}\n",
+        painted.status
+    )
+}
+
+/// Marks what an image of zeros used in a map of this length.
+fn map_length_line(model: &Video, length: usize) -> String {
+    let (memory, state) = (vec![0; IMAGE_LENGTH], model.fresh_state());
+    let (mut frame, mut map) = (vec![0; FRAME_LENGTH], vec![0; length]);
+    let painted = model.paint_frame_mapped(&memory, state, &mut frame, &mut map);
+    let digest = digest_of_bytes(&map);
+    format!(
+        "map length {length}: status {} digest {digest:016x}\n",
+        painted.status
+    )
+}
+
+/// How many bits of a map are set.
+fn marked(map: &[u8]) -> u32 {
+    map.iter().map(|byte| byte.count_ones()).sum()
+}
+
+fn digest_of_bytes(bytes: &[u8]) -> u64 {
+    let mut digest = Digest::new();
+    digest.take(bytes);
+    digest.0
 }
 
 /// Compares a generated pair of frames, with lists that hold something else before.
