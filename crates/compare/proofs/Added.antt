@@ -14,7 +14,7 @@ use Rattle.machine.specs.Sizes.{cellLength, columns, lineLength}
 use Rattle.machine.proofs.Each.{each-map}
 use Rattle.compare.specs.Internal.{linePlaces, hasPlace, lineListed, foundWith}
 use Rattle.compare.specs.Places.{xOf, lineOf, differs}
-use Rattle.compare.proofs.Numbers.{either, clash, from-each, from-member, from-nothing, from-nowhere}
+use Rattle.machine.proofs.Numbers.{either, clash, from-each, from-member, from-nothing, from-nowhere}
 use Rattle.compare.proofs.Picks.{Order, rising, falling, fold-is, fold-all}
 use Rattle.compare.specs.declared.comparison.Found.{Found}
 

@@ -16,10 +16,10 @@ use Rattle.machine.proofs.Refusals.{done}
 use Rattle.compare.specs.Answer.{report, lineCounts, statusOf, compareAnswer, countsLeft, cellsLeft}
 use Rattle.compare.specs.Internal.{linePlaces, countsIn}
 use Rattle.compare.specs.Laws.{ComparisonIsSymmetric, LineCountsSumToPixels, EmptyIsEqual, Smallest, RectangleIsSmallest}
-use Rattle.compare.specs.Numbers.{sum}
+use Rattle.machine.specs.Numbers.{sum}
 use Rattle.compare.specs.Places.{xOf, lineOf, differs, differences}
 use Rattle.compare.proofs.Accepted.{accepted-lengths}
-use Rattle.compare.proofs.Numbers.{no-length, start-pieces, from-nothing, from-nowhere, from-same}
+use Rattle.machine.proofs.Numbers.{no-length, start-pieces, from-nothing, from-nowhere, from-same}
 use Rattle.compare.proofs.Picks.{rising, falling, picked-before, picked-one}
 use Rattle.compare.proofs.Places.{equal}
 use Rattle.compare.proofs.Whole.{counts-are}

@@ -1,4 +1,3 @@
-pub mod Numbers
 pub mod Picks
 pub mod Places
 pub mod Added
@@ -6,9 +5,3 @@ pub mod Listed
 pub mod Whole
 pub mod Accepted
 pub mod Laws
-pub mod Integers
-pub mod Slips
-pub mod Signed
-pub mod Outside
-pub mod Best
-pub mod SlipLaws

@@ -8,7 +8,7 @@ use native.Mathlib.Omega.{arith}
 use lib.ListN.{length, take, set, replicate, length-append, length-take, length-replicate, replicate-append-replicate}
 use lib.Seq.{sets, set-append-seam, set-out, take-append-le, take-set-lt}
 use Rattle.compare.specs.Answer.{listLength, noCell, listed}
-use Rattle.compare.proofs.Numbers.{either}
+use Rattle.machine.proofs.Numbers.{either}
 
 pub sets-more : {A : Type 0} (l : List A) (i : ℕ) (vs ws : List A) → sets l i (vs ++ ws) ≡ sets (sets l i vs) (i + length vs) ws
 sets-more l i [] ws = let e : i ≡ i + 0 = omega arith in ap (λ (n : ℕ). sets l n ws) e

@@ -9,8 +9,8 @@ use native.Mathlib.Omega.{arith}
 use lib.ListN.{length}
 use Rattle.machine.specs.Lists.{Each}
 use Rattle.machine.proofs.Each.{each-none, each-cons, each-head, each-tail, each-mapped}
-use Rattle.compare.specs.Numbers.{picked}
-use Rattle.compare.proofs.Numbers.{either}
+use Rattle.machine.specs.Numbers.{picked}
+use Rattle.machine.proofs.Numbers.{either}
 
 -- what is in a list of numbers is the number of one of the list
 mapped : {n : ℕ} (number : ℕ → ℕ) (places : List ℕ) → List·Memᴰ n (map number places) → (place : ℕ) × List·Memᴰ place places × (number place ≡ n)

@@ -13,9 +13,9 @@ use Rattle.machine.proofs.Each.{each-map, each-head}
 use Rattle.machine.proofs.Lists.{gather-same}
 use Rattle.compare.specs.Answer.{listLength, noCell, report, lineCounts, listed}
 use Rattle.compare.specs.Internal.{linePlaces, cellPlaces, hasPlace, foundWith, foundIn, countsIn, listedIn, Small, reported}
-use Rattle.compare.specs.Numbers.{passing, passingFrom, least, greatest}
+use Rattle.machine.specs.Numbers.{passing, passingFrom, least, greatest}
 use Rattle.compare.specs.Places.{xOf, lineOf, cellOf, differs, differences, onLine, inCell, cellDiffers, differingCells}
-use Rattle.compare.proofs.Numbers.{one-piece, start-pieces, from-none, from-each, from-most, from-same}
+use Rattle.machine.proofs.Numbers.{one-piece, start-pieces, from-none, from-each, from-most, from-same}
 use Rattle.compare.proofs.Picks.{AtLeast, rising, falling, fold-first, fold-bound, fold-picked}
 
 -- the start of a search for the least does not matter where there is one, and where there is none 0 stands for it

@@ -8,7 +8,7 @@ use lib.ListN.{length, take, replicate}
 use Rattle.machine.specs.Lists.{gather}
 use Rattle.machine.specs.Refusal.{refusal, ifDone, outputCheck}
 use Rattle.machine.specs.Sizes.{lines, frameLength}
-use Rattle.compare.specs.Numbers.{least, greatest}
+use Rattle.machine.specs.Numbers.{least, greatest}
 use Rattle.compare.specs.Places.{xOf, lineOf, differences, onLine, differingCells}
 use Rattle.compare.specs.declared.comparison.Comparison.{Comparison}
 

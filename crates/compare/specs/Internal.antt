@@ -5,26 +5,18 @@ use mathlib.Core.Bool.{Bool, cond}
 use mathlib.Core.List.{List, [], _∷_, map, foldl}
 use mathlib.Core.Path.{_≡_}
 use lib.Dec.{eqb, ltb}
-use lib.IntN.{ℤ, natAbs}
 use lib.ListN.{length}
-use Rattle.machine.specs.Lists.{gather}
+use Rattle.machine.specs.Lists.{gather, AreSized}
 use Rattle.machine.specs.Sizes.{cellLength, columns, lines, lineLength, frameLength}
 use Rattle.compare.specs.Answer.{listed}
-use Rattle.compare.specs.Numbers.{ifPassed, passingFrom}
+use Rattle.machine.specs.Numbers.{ifPassed, passingFrom}
 use Rattle.compare.specs.Places.{xOf, lineOf, differs}
 use Rattle.compare.specs.declared.comparison.Comparison.{Comparison}
 use Rattle.compare.specs.declared.comparison.Found.{Found}
 
--- two lists are as long as is wanted
-pub record AreSized (wanted : ℕ) (first second : List ℕ) : Type 0 where
-  pub one : length first ≡ wanted
-  pub other : length second ≡ wanted
-
+-- two frames
 abbrev pub AreFrames : List ℕ → List ℕ → Type 0
 AreFrames = AreSized frameLength
-
-abbrev pub AreLines : List ℕ → List ℕ → Type 0
-AreLines = AreSized lineLength
 
 module _ (first second : List ℕ) where
   -- the differing places of a line, and of a cell
@@ -95,7 +87,3 @@ reported found =
       pixels = found .pixels;
       cells = found .cells;
     }
-
--- a slip with so many disagreements has fewer than another, or as many and is nearer zero
-abbrev pub isBetter : ℤ → ℕ → ℤ → ℕ → Bool
-isBetter slip count best fewest = cond (eqb count fewest) (ltb (natAbs slip) (natAbs best)) (ltb count fewest)

@@ -6,7 +6,7 @@ use mathlib.Core.List.{List, List·Memᴰ}
 use mathlib.Core.Path.{_≡_}
 use Rattle.machine.specs.Lists.{Each}
 use Rattle.compare.specs.Answer.{statusOf, compareAnswer, countsLeft, cellsLeft}
-use Rattle.compare.specs.Numbers.{sum}
+use Rattle.machine.specs.Numbers.{sum}
 use Rattle.compare.specs.Places.{xOf, lineOf, differences}
 use Rattle.compare.specs.declared.comparison.Comparison.{Comparison}
 

@@ -6,7 +6,7 @@ use mathlib.Core.List.{List}
 use lib.Dec.{eqb, ltb}
 use lib.ListN.{length, getD}
 use Rattle.machine.specs.Sizes.{cellLength, columns, lines, lineLength, frameLength}
-use Rattle.compare.specs.Numbers.{passing, passingFrom}
+use Rattle.machine.specs.Numbers.{passing, passingFrom}
 
 -- a place is 240 x line + x
 abbrev pub xOf : ℕ → ℕ

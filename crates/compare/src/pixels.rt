@@ -6,7 +6,7 @@ ghost use lib.Dec.{ltb};
 ghost use lib.ListN.{length};
 ghost use Rattle.machine.specs.Sizes.{cellLength, lines, lineLength, frameLength};
 ghost use Rattle.compare.specs.Internal.{AreFrames, linePlaces};
-ghost use Rattle.compare.specs.Numbers.{passingFrom};
+ghost use Rattle.machine.specs.Numbers.{passingFrom};
 ghost use Rattle.compare.specs.Places.{xOf, differs};
 use machine::CELL_LENGTH;
 use machine::LINE_LENGTH;

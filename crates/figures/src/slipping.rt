@@ -4,8 +4,8 @@ use crate::comparing;
 use crate::generated;
 use crate::mixing;
 use crate::report;
-use compare::Slip;
 use machine::LINE_LENGTH;
+use slips::Slip;
 
 // The moves from -12 to 12, counted from 0.
 const FARTHEST: u8 = 12;
@@ -37,7 +37,7 @@ fn moved(number: u8)
     shift(&reference, &mut grabbed, number);
     comparing::change(&mut grabbed, mixing::seed(number), CHANGED);
     report_move(number);
-    report_answer(compare::find_slip(&reference, &grabbed));
+    report_answer(slips::find_slip(&reference, &grabbed));
 }
 
 // Pixel x goes to x + number - 12, where the line has that place.
@@ -86,7 +86,7 @@ fn stripes(width: u8)
     let mut grabbed = [0u8; LINE_LENGTH];
     stripe(&mut grabbed, width, width);
     report::field(b"slip stripes ", width as u64);
-    report_answer(compare::find_slip(&reference, &grabbed));
+    report_answer(slips::find_slip(&reference, &grabbed));
 }
 
 fn stripe(line: &mut [u8], width: u8, from: u8)
@@ -110,7 +110,7 @@ pub(crate) fn lengths() {
 fn pair(reference: &[u8], grabbed: &[u8]) {
     report::field(b"slip lengths ", reference.len() as u64);
     report::field(b" ", grabbed.len() as u64);
-    report_answer(compare::find_slip(reference, grabbed));
+    report_answer(slips::find_slip(reference, grabbed));
 }
 
 fn report_answer(answer: Slip) {

@@ -4,5 +4,6 @@ pub mod Choice
 pub mod Each
 pub mod Folding
 pub mod Lists
+pub mod Numbers
 pub mod Refusals
 pub mod Tables

@@ -3,3 +3,4 @@ pub mod Image
 pub mod Sizes
 pub mod Refusal
 pub mod Lists
+pub mod Numbers

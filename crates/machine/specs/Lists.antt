@@ -3,7 +3,9 @@
 use Prim.Native.Nat.{ℕ, zero, suc}
 use mathlib.Core.Bool.{Bool, false, _||_}
 use mathlib.Core.List.{List, [], _∷_, _++_, List·Memᴰ}
+use mathlib.Core.Path.{_≡_}
 use lib.Dec.{eqb}
+use lib.ListN.{length}
 
 -- the lists that f gives for 0, 1, .. n - 1, joined in this order
 unfoldable pub gather : {A : Type 0} → (ℕ → List A) → ℕ → List A
@@ -18,3 +20,8 @@ Each {A} P xs = (x : A) → List·Memᴰ x xs → P x
 unfoldable pub isIn : ℕ → List ℕ → Bool
 isIn n [] = false
 isIn n (m ∷ ms) = eqb n m || isIn n ms
+
+-- two lists are as long as is wanted
+pub record AreSized (wanted : ℕ) (first second : List ℕ) : Type 0 where
+  pub one : length first ≡ wanted
+  pub other : length second ≡ wanted

@@ -6,13 +6,13 @@ ghost use Rattle.bus.specs.Cycle.{readAnswer, writeAnswer, writeContents, write
 ghost use Rattle.bus.specs.Latch.{freshLatches};
 ghost use Rattle.bus.specs.Place.{decodeAnswer};
 ghost use Rattle.compare.specs.Answer.{compareAnswer, countsLeft, cellsLeft};
-ghost use Rattle.compare.specs.Slip.{IsSlipAnswer};
+ghost use Rattle.slips.specs.Slip.{IsSlipAnswer};
 use bus::Access;
 use bus::Decoded;
 use bus::Latches;
 use bus::Written;
 use compare::Comparison;
-use compare::Slip;
+use slips::Slip;
 use video::Address;
 use video::Painted;
 use video::State;
@@ -159,5 +159,5 @@ pub extern "C" fn tropfenpfad_compare(
 pub extern "C" fn tropfenpfad_find_slip(reference: &[u8], grabbed: &[u8]) -> Slip
     ensures { λ r. ⌜ IsSlipAnswer (now (reference .entry)) (now (grabbed .entry)) r ⌝ }
 {
-    compare::find_slip(reference, grabbed)
+    slips::find_slip(reference, grabbed)
 }

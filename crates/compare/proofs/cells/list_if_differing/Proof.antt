@@ -9,7 +9,7 @@ use lib.Seq.{sets}
 use denote.Ref.{now}
 use borrow.Author.Needs.{needs}
 use Rattle.compare.specs.Internal.{hasPlace}
-use Rattle.compare.proofs.Numbers.{passed, failed}
+use Rattle.machine.proofs.Numbers.{passed, failed}
 use Rattle.compare.proofs.cells.list_if_differing.Statement.{statement}
 use Rattle.compare.proofs.cells.list_if_differing.Tie as tie
 

@@ -10,7 +10,7 @@ use denote.Ref.{now}
 use borrow.Author.Needs.{needs}
 use Rattle.compare.specs.Internal.{linePlaces, foundWith}
 use Rattle.compare.proofs.Added.{found-none, none-listed, line-adds}
-use Rattle.compare.proofs.Numbers.{no-length}
+use Rattle.machine.proofs.Numbers.{no-length}
 use Rattle.compare.proofs.frames.find_line.Statement.{statement}
 use Rattle.compare.proofs.frames.find_line.Tie as tie
 

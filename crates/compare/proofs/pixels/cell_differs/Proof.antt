@@ -11,9 +11,9 @@ use denote.Ref.{now}
 use borrow.Author.Count.{below-more}
 use borrow.Author.Tests.{lt-ltb}
 use Rattle.machine.specs.Sizes.{cellLength}
-use Rattle.compare.specs.Numbers.{passingFrom}
+use Rattle.machine.specs.Numbers.{passingFrom}
 use Rattle.compare.specs.Places.{differs}
-use Rattle.compare.proofs.Numbers.{some, from-member, from-nothing}
+use Rattle.machine.proofs.Numbers.{some, from-member, from-nothing}
 use Rattle.compare.proofs.Places.{unequal, equal}
 use Rattle.compare.proofs.pixels.cell_differs.Statement.{statement}
 use Rattle.compare.proofs.pixels.cell_differs.Tie as tie

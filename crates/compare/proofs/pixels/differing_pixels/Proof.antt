@@ -7,9 +7,9 @@ use lib.ListN.{length}
 use mir.Val.{boolByte}
 use denote.Ref.{now}
 use Rattle.machine.specs.Sizes.{lineLength}
-use Rattle.compare.specs.Numbers.{passingFrom}
+use Rattle.machine.specs.Numbers.{passingFrom}
 use Rattle.compare.specs.Places.{differs}
-use Rattle.compare.proofs.Numbers.{from-none, from-count, from-most}
+use Rattle.machine.proofs.Numbers.{from-none, from-count, from-most}
 use Rattle.compare.proofs.pixels.differing_pixels.Statement.{statement}
 use Rattle.compare.proofs.pixels.differing_pixels.Tie as tie
 

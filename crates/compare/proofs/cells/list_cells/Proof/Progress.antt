@@ -8,9 +8,9 @@ use lib.ListN.{length, length-append}
 use lib.Seq.{sets, length-sets}
 use Rattle.machine.specs.Sizes.{columns}
 use Rattle.compare.specs.Internal.{hasPlace, cellListed, lineListed}
-use Rattle.compare.specs.Numbers.{passingFrom}
+use Rattle.machine.specs.Numbers.{passingFrom}
 use Rattle.compare.proofs.Listed.{sets-more}
-use Rattle.compare.proofs.Numbers.{from-none, from-next, from-most}
+use Rattle.machine.proofs.Numbers.{from-none, from-next, from-most}
 
 module _ (first second : List ℕ) (line before : ℕ) (held : List ℕ) where
   -- the differing cells before a column

@@ -12,11 +12,11 @@ use Rattle.machine.specs.Sizes.{columns, lines, lineLength}
 use Rattle.machine.proofs.Lists.{gather-next}
 use Rattle.compare.specs.Answer.{listLength, listed}
 use Rattle.compare.specs.Internal.{linePlaces, hasPlace, lineListed, foundWith, nothing, foundIn, countsIn, listedIn}
-use Rattle.compare.specs.Numbers.{passingFrom}
+use Rattle.machine.specs.Numbers.{passingFrom}
 use Rattle.compare.specs.Places.{xOf, differs}
 use Rattle.compare.proofs.Added.{found-none, found-more}
 use Rattle.compare.proofs.Listed.{listed-length, listed-more}
-use Rattle.compare.proofs.Numbers.{from-none, start-piece, from-most}
+use Rattle.machine.proofs.Numbers.{from-none, start-piece, from-most}
 use Rattle.compare.proofs.Picks.{rising, fold-first}
 use Rattle.compare.specs.declared.comparison.Found.{Found}
 
