@@ -9,7 +9,7 @@ use mir.Syntax.{w8, w64}
 use mir.Val.{hbits, toZ, ofZ}
 use mir.ValLaws.{toZ-ofZ}
 use borrow.Author.Needs.{needs}
-use Rattle.compare.proofs.Signed.{near-fits, distance-negated, negated-fits, negated-back, negative-negated, not-negative}
+use Rattle.slips.proofs.Signed.{near-fits, distance-negated, negated-fits, negated-back, negative-negated, not-negative}
 use Rattle.figures.proofs.report.distance.Statement.{statement}
 use Rattle.figures.proofs.report.distance.Tie as tie
 
