@@ -8,6 +8,7 @@ use tropfenpfad_sys::{
 };
 
 use crate::inputs::image_length;
+use crate::maps::marked;
 use crate::model::{compare, slip, Bus, Video};
 use crate::random::step;
 use crate::slips::{moved, stripes};
@@ -243,7 +244,7 @@ fn map_image_line(model: &Video, profile: u8, image: u64, map: &mut [u8]) -> Str
         "{machine}map image {image}: status {} character {} marked {} digest {:016x}\n",
         painted.status,
         painted.character,
-        marked(map),
+        marked(map).len(),
         digest_of_bytes(map)
     )
 }
@@ -253,11 +254,8 @@ fn map_line_line(model: &Video, line: usize) -> String {
     let (memory, state) = (vec![0; IMAGE_LENGTH], model.fresh_state());
     let (mut output, mut map) = ([0; LINE_LENGTH], [0; MAP_LENGTH]);
     let painted = model.paint_line_mapped(&memory, state, line, &mut output, &mut map);
-    let marked = marked(&map);
-    format!(
-        "map line {line}: status {} marked {marked}\n",
-        painted.status
-    )
+    let (status, marked) = (painted.status, marked(&map).len());
+    format!("map line {line}: status {status} marked {marked}\n")
 }
 
 /// Marks what an image of zeros used in a map of this length.
@@ -270,11 +268,6 @@ fn map_length_line(model: &Video, length: usize) -> String {
         "map length {length}: status {} digest {digest:016x}\n",
         painted.status
     )
-}
-
-/// How many bits of a map are set.
-fn marked(map: &[u8]) -> u32 {
-    map.iter().map(|byte| byte.count_ones()).sum()
 }
 
 fn digest_of_bytes(bytes: &[u8]) -> u64 {

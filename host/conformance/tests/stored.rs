@@ -22,12 +22,16 @@ fn first_difference(stored: &str, made: &str) -> String {
 fn stored_figures_that_are_stale() {
     let made = figures::lines();
     let machines = 8 + 15 + 256 + 7 + 2 + 256;
-    assert_eq!(made.lines().count(), machines + 8 + 4 + 25 + 7 + 2 + 56);
+    let maps = 2 * 8 + 2 + 3;
+    assert_eq!(
+        made.lines().count(),
+        machines + maps + 8 + 4 + 25 + 7 + 2 + 56
+    );
     let stored = files::text("crates/figures/stdout");
     assert!(stored == made, "{}", first_difference(&stored, &made));
     println!(
-        "figures: 15 limits, 256 paintings in each profile, 17 times 65,536 decodes, 12 comparisons, \
-         34 slips, 448 line starts compared"
+        "figures: 15 limits, 256 paintings in each profile, 17 times 65,536 decodes, 21 maps, \
+         12 comparisons, 34 slips, 448 line starts compared"
     );
 }
 
