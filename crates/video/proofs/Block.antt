@@ -17,9 +17,8 @@ use Rattle.video.specs.Address.{videoBlock, screenAddress, characterAddr
 use Rattle.video.specs.Answer.{painted, cellsOfLine}
 use Rattle.video.specs.Cell.{Cell, pixels, used}
 use Rattle.video.specs.Frame.{frameCells}
-use Rattle.video.specs.Internal.{blockOf, blockRam, blockMarks}
+use Rattle.video.specs.Internal.{blockOf, blockMarks}
 use Rattle.video.specs.Laws.{StandsIn, foldedCell}
-use Rattle.video.specs.Line.{lineCells}
 use Rattle.video.specs.Map.{byteBits, mapLength, marked}
 use Rattle.video.specs.State.{withProfile}
 use Rattle.video.proofs.Addresses.{InBlock, block-moved, screen-in-block, characters-in-block}

@@ -1,9 +1,9 @@
 -- Laws of a map: which bits a marking sets, one marking after another, one address, and a part of the map that is lent.
 -- Assumes nothing.
-use Prim.Native.Nat.{ℕ, zero, suc, _+_, _-_, _*_, _/_, _%_, _^_, _≤_, _<_}
+use Prim.Native.Nat.{ℕ, _+_, _-_, _*_, _/_, _%_, _^_, _≤_, _<_}
 use mathlib.Core.Bool.{Bool, true, false, cond, _||_, or-assoc, or-false}
 use mathlib.Core.List.{List, [], _∷_, _++_, map}
-use mathlib.Core.Path.{_≡_, refl, sym, ap, ap₂, _∙_}
+use mathlib.Core.Path.{_≡_, refl, sym, ap, _∙_}
 use native.Mathlib.Nat.{add-sub-cancel-left}
 use native.Mathlib.Omega.{arith}
 use lib.Dec.{eqb, ltb}
@@ -11,8 +11,8 @@ use lib.ListN.{length, getD, set, take, drop, length-set, length-drop}
 use lib.Seq.{ext-getD, getD-set-same, getD-set-other, length-take-le, getD-take, getD-drop}
 use borrow.Author.Tests.{eqb-true, eqb-false, ne-eqb, ltb-true, ltb-false}
 use borrow.Rule.Slice.PartMut.{putMid, same-len-mid}
-use Rattle.machine.specs.Bits.{bit, ofBits}
-use Rattle.machine.specs.Lists.{gather, Each, isIn}
+use Rattle.machine.specs.Bits.{bit}
+use Rattle.machine.specs.Lists.{Each, isIn}
 use Rattle.machine.proofs.Bits.{bits-same, bits-below, bit-of-bits, byte-of-bits, byte-with-bit}
 use Rattle.machine.proofs.Choice.{eqb-same}
 use Rattle.machine.proofs.Each.{each-map}

@@ -1,7 +1,7 @@
 -- `figures::mapping::images` is safe and ends: the map keeps its length, and the measure is how many images are left.
 -- Assumes nothing.
 use Prim.Native.Nat.{_≤_, _-_}
-use mathlib.Core.Path.{_≡_, _∙_}
+use mathlib.Core.Path.{_≡_}
 use lib.ListN.{length}
 use borrow.Author.Needs.{needs}
 use Rattle.video.specs.Map.{mapLength}

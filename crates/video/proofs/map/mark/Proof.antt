@@ -1,7 +1,7 @@
 -- `video::map::mark` meets its contract: the weight is added in the byte of the address, where the map has it and its bit is not set.
 -- Assumes nothing.
 use Prim.Native.Nat.{ℕ, _/_, _%_, _^_}
-use mathlib.Core.Bool.{true, false}
+use mathlib.Core.Bool.{false}
 use mathlib.Core.Path.{_≡_}
 use native.Mathlib.Omega.{arith}
 use lib.ListN.{getD}

@@ -5,7 +5,6 @@ use mathlib.Core.Bool.{Bool, true, false, cond, _&&_}
 use mathlib.Core.Path.{_≡_, refl}
 use native.Mathlib.Omega.{arith}
 use lib.Dec.{eqb, ltb}
-use borrow.Author.Needs.{needs}
 use Rattle.machine.proofs.Choice.{cond-all}
 use Rattle.video.specs.Address.{bitmapLines}
 use Rattle.video.proofs.address.Scanline.character_bytes.Statement.{statement}
