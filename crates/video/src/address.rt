@@ -1,6 +1,5 @@
 // Where the bytes of a cell are.
 ghost use mathlib.Core.Path.{_≡_};
-ghost use mathlib.Core.Bool.{cond};
 ghost use Prim.Native.Nat.{_<_, _%_};
 ghost use Rattle.machine.specs.Image.{IsImage};
 ghost use Rattle.machine.specs.Sizes.{columns, lines};
@@ -10,7 +9,6 @@ ghost use Rattle.video.specs.Card.{card};
 ghost use Rattle.video.specs.Internal.{blockOf, scanline};
 use crate::bits::bit;
 use crate::bits::both;
-use crate::bits::choose;
 use crate::bits::wide;
 use crate::card::CARD_LENGTH;
 use crate::card::line_starts;
@@ -126,14 +124,6 @@ impl Scanline {
         ensures { λ r. ⌜ r ≡ isBitmap (self .number) mode ⌝ }
     {
         both(self.number < BITMAP_LINES, is_hires(mode))
-    }
-
-    // How many character bytes a picture uses, 0 or 1: none for a bitmap. Where this is a test and no product, a cell waits for the
-    // pixels of the cell before it.
-    pub(crate) fn character_bytes(self, mode: u64) -> u64
-        ensures { λ r. ⌜ r ≡ cond (isBitmap (self .number) mode) 0 1 ⌝ }
-    {
-        1 - choose(self.number < BITMAP_LINES, 1, 0) * (mode / HIRES % 2)
     }
 
     // Where a character has the row that the line shows.

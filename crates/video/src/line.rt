@@ -142,7 +142,7 @@ pub(crate) fn fill_line(
     painted
 }
 
-// Lines without marks have a loop of their own: in one loop for both they would take a tenth longer.
+// Lines without marks have a loop of their own: in one loop for both they would take up to an eighth more instructions.
 fn paint_cells(
     block: &[u8],
     counter: u8,

@@ -76,7 +76,7 @@ returns-2 c =
     let k = d .before .before .before .before .before in
     let a = k .before .before .before .args in
     let picture = sym (d .before .before .before .before .is-attribute .ensures) ∙ d .before .before .before .if1 .left in
-    rw (c .character-bytes .ensures, c .before .paint-colours2 .ensures, chosen d, read k, k .before .screen-address .ensures)
+    rw (c .choose .ensures, c .before .paint-colours2 .ensures, d .before .before .is-bitmap .ensures, chosen d, read k, k .before .screen-address .ensures)
     (picture-painted (blockRam (now (a .block))) (a .counter) (a .line .number) (a .column) (a .before) (rw (read k) at picture))
 
 pub paint-cell-spec : {M : Type 1} → statement M
