@@ -221,9 +221,9 @@ fn paint_marked(
     let mut column: usize = 0;
     while column < COLUMNS {
         let cell = paint_cell(block, counter, line, column, registers);
+        mark_cell(marks, cell);
         let colours = cell.colours;
         cells[column] = colours;
-        mark_cell(marks, cell);
         registers = cell.registers;
         screen += 1;
         character += cell.character;

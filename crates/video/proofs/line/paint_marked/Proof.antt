@@ -47,9 +47,9 @@ paint-cell-requires c κs =
 
 loop-again : tie.Need-loop-again Inv-loop μ-loop
 loop-again c =
-    let m = c .before .before .before .before in
-    let cell = m .before .before .before .paint-cell in
-    let here = m .before .before .before .before .before .loop in (
+    let m = c .before .before .before .before .before in
+    let cell = m .before .before .paint-cell in
+    let here = m .before .before .before .before .loop in (
       next _ _ _ _ _ _ _ _ _ (here .inv .0) (omega arith) (cell .result) (cell .ensures),
       next-marked _ _ _ _ _ _ _ _ _ (here .inv .0) _ (here .marks) _ (cell .result) (cell .ensures) (here .inv .1) (m .mark-cell .ensures),
     )
@@ -74,9 +74,9 @@ paint-marked-spec =
     (λ c κs. tt)
     loop-holds
     paint-cell-requires
-    (λ c. omega arith)
-    (λ c. omega arith)
     (λ c κs. tt)
+    (λ c. omega arith)
+    (λ c. omega arith)
     (λ c. omega arith)
     add-character
     (λ c. omega arith)
