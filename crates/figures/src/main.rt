@@ -1,12 +1,12 @@
 // The figures of document 01 that are run, the decode of every address, and digests of generated frames, a line each; then the same
 // of the 16K machine; then maps of used addresses, comparisons of frames, slips of lines, and the card of line starts.
-mod card;
 mod comparing;
 mod decoding;
 mod generated;
 mod mapping;
 mod mixing;
 mod painting;
+mod printing;
 mod report;
 mod slipping;
 
@@ -31,5 +31,5 @@ fn main() {
     slipping::moves();
     slipping::widths();
     slipping::lengths();
-    card::halves();
+    printing::halves();
 }

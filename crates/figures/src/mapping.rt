@@ -2,7 +2,7 @@
 ghost use mathlib.Core.Path.{_≡_};
 ghost use Prim.Native.Nat.{_≤_};
 ghost use lib.ListN.{length};
-ghost use Rattle.video.specs.Map.{mapLength};
+ghost use Rattle.used_map.specs.Map.{mapLength};
 use crate::generated;
 use crate::mixing;
 use crate::report;
@@ -12,7 +12,7 @@ use machine::IMAGE_LENGTH_16K;
 use machine::LINE_LENGTH;
 use machine::PROFILE_16K;
 use machine::PROFILE_48K;
-use video::MAP_LENGTH;
+use used_map::MAP_LENGTH;
 
 // Two images of each kind.
 const IMAGES: u8 = 8;

@@ -4,7 +4,7 @@ use Prim.Native.Nat.{ℕ}
 use mathlib.Core.Path.{_≡_, refl}
 use borrow.Author.Tests.{lt-ltb}
 use Rattle.machine.specs.Image.{folded}
-use Rattle.video.specs.Address.{bitmapLines}
+use Rattle.card.specs.Card.{bitmapLines}
 use Rattle.video.specs.Registers.{latched}
 use Rattle.video.specs.Cell.{cell, screenByte, registersAfter, characterUsed, coloursOf}
 use Rattle.video.specs.Line.{registersBefore, cellAt}

@@ -6,17 +6,17 @@ use mathlib.Core.List.{List}
 use lib.ListN.{length}
 use Rattle.machine.specs.Image.{Image, IsImage}
 use Rattle.machine.specs.Sizes.{frameLength}
+use Rattle.used_map.specs.Map.{mapLength, marked}
 use Rattle.video.specs.State.{Within, afterFrame}
 use Rattle.video.specs.Cell.{Cell, pixels, used}
 use Rattle.video.specs.Frame.{frameCells}
 use Rattle.video.specs.Answer.{painted, frameRefusal, frameAnswer, frameContents, mappedFrameRefusal, mappedFrameAnswer, mappedFrameContents, mappedFrameMap}
-use Rattle.video.specs.Map.{mapLength, marked}
 use Rattle.video.proofs.Accepted.{frame-accepted, mapped-accepted}
-use Rattle.video.proofs.Agreement.{frame-by-used-bytes}
 use Rattle.video.proofs.Answers.{painting-done, mapping-done}
-use Rattle.video.proofs.Places.{regions-hold, modes-carry}
 use Rattle.video.specs.declared.answer.Painted.{Painted}
 use Rattle.video.specs.declared.state.State.{State}
+use Rattle.video_laws.proofs.Frames.{frame-by-used-bytes}
+use Rattle.video_laws.proofs.Places.{regions-hold, modes-carry}
 use Rattle.bus.specs.Accesses.{boardAfter}
 use Rattle.bus.proofs.Stores.{steps-keep, steps-sized}
 use Rattle.reference.specs.Noninterference.{DoneAlike, PaintSame, MapSame, ShowSame, NoninterferenceHolds}

@@ -8,7 +8,8 @@ use mathlib.Core.List.{List, [], _∷_}
 use mathlib.Core.Option.{some}
 use lib.ListN.{replicate}
 use Rattle.machine.specs.Image.{folded}
-use Rattle.video.specs.Address.{isHires, bitmapLines, screenAddress}
+use Rattle.card.specs.Card.{bitmapLines}
+use Rattle.video.specs.Address.{isHires, screenAddress}
 use Rattle.video.specs.Registers.{isAttribute}
 use Rattle.video.specs.Cell.{screenByte}
 use Rattle.video.specs.Line.{registersBefore, cellAt}

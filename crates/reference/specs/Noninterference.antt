@@ -9,14 +9,14 @@ use lib.ListN.{length}
 use Rattle.machine.specs.Image.{Image, IsImage}
 use Rattle.machine.specs.Lists.{Each}
 use Rattle.machine.specs.Sizes.{frameLength}
+use Rattle.used_map.specs.Map.{mapLength}
 use Rattle.video.specs.State.{Within, afterFrame}
 use Rattle.video.specs.Cell.{pixels, used}
 use Rattle.video.specs.Frame.{frameCells}
 use Rattle.video.specs.Answer.{painted, frameAnswer, frameContents, mappedFrameAnswer, mappedFrameContents, mappedFrameMap}
-use Rattle.video.specs.Laws.{Agree, InForce, Placed}
-use Rattle.video.specs.Map.{mapLength}
 use Rattle.video.specs.declared.answer.Painted.{Painted}
 use Rattle.video.specs.declared.state.State.{State}
+use Rattle.video_laws.specs.Laws.{Agree, InForce, Placed}
 use Rattle.bus.specs.Accesses.{Step, boardAfter, stores}
 use Rattle.bus.specs.declared.latch.Latches.{Latches}
 

@@ -9,8 +9,8 @@ use Rattle.machine.specs.Image.{Image, IsImage, imageLength}
 use Rattle.machine.specs.Refusal.{refusalBefore}
 use Rattle.machine.specs.Sizes.{columns, lines, frameLength, lastMode, lastCount, lastProfile}
 use Rattle.machine.proofs.Refusals.{Passed, memory-passed, output-passed, mode-passed, counter-passed, line-passed, column-passed, profile-passed}
+use Rattle.used_map.specs.Map.{mapLength}
 use Rattle.video.specs.Answer.{pictureChecks, stateChecks, mapCheck, addressRefusal, frameRefusal, mappedFrameRefusal}
-use Rattle.video.specs.Map.{mapLength}
 use Rattle.video.specs.State.{Within}
 use Rattle.video.specs.declared.state.State.{State}
 

@@ -1,9 +1,8 @@
--- Every address that a cell uses lies in its region, inside the image: by the cases of the table, lines 0 to 199 or below them, text or
--- hires, and then folded, since no region crosses a border of 16K.
+-- Every address that a cell uses lies in the block from 8000 to BFFF, and folded inside the image: by lines 0 to 199 or below them, text
+-- or hires.
 -- Assumes nothing.
 use Prim.Native.Nat.{ℕ, _+_, _-_, _*_, _<_, _≤_, _/_, _%_}
-use mathlib.Core.Bool.{Bool, true, false, cond, true≢false}
-use mathlib.Core.Option.{none, some}
+use mathlib.Core.Bool.{Bool, true, false, cond}
 use mathlib.Core.Path.{_≡_, refl}
 use native.Mathlib.Omega.{arith}
 use lib.Dec.{ltb}
@@ -13,9 +12,8 @@ use Rattle.machine.specs.Image.{is16K, blockLength, imageLength, folded}
 use Rattle.machine.specs.Sizes.{columns, lines}
 use Rattle.machine.proofs.Choice.{cond-all, cond-most, cond-both}
 use Rattle.machine.proofs.Folding.{folded-most, folded-inside}
-use Rattle.video.specs.Address.{videoBlock, isHires, isBitmap, bitmapLines, textStart, hiresStart, screenAddress, textCharacters, hiresCharacters, characterSet, alternateOffset, characterRow, characterAddress}
-use Rattle.video.specs.Laws.{RegionsInOneBlock, RegionsFold}
-use Rattle.video.specs.Region.{In, InOneBlock, foldedRegion, screenRegion, definitionRegion}
+use Rattle.card.specs.Card.{bitmapLines, textStart, hiresStart}
+use Rattle.video.specs.Address.{videoBlock, isHires, screenAddress, textCharacters, hiresCharacters, characterSet, alternateOffset, characterRow, characterAddress}
 
 -- the block from 8000 to BFFF, in which all used addresses of the table lie
 abbrev pub InBlock : ℕ → Type 0
@@ -27,31 +25,8 @@ block-moved profile address h =
     cond-both (λ (n base : ℕ). n ≡ base + address % blockLength) (is16K profile) (address % blockLength) address (videoBlock % blockLength) videoBlock
     (omega arith) (omega arith)
 
-pub regions-in-one-block : RegionsInOneBlock
-regions-in-one-block line mode = go (ltb line bitmapLines) (isHires mode) refl refl
-  where
-    go : (upper hires : Bool) → ltb line bitmapLines ≡ upper → isHires mode ≡ hires
-        → InOneBlock (screenRegion line mode) × InOneBlock (definitionRegion line mode)
-    go true true u h = simp (u, h) (refl, tt)
-    go true false u h = simp (u, h) (refl, refl)
-    go false true u h = simp (u, h) (refl, refl)
-    go false false u h = simp (u, h) (refl, refl)
-
-pub regions-fold : RegionsFold
-regions-fold profile none block = (λ address h. absurd h, λ address h. absurd h)
-regions-fold profile (some region) block = go (is16K profile) refl
-  where
-    go : (small : Bool) → is16K profile ≡ small
-        → ((address : ℕ) → In (some region) address → In (foldedRegion profile (some region)) (folded profile address))
-        × ((address : ℕ) → In (foldedRegion profile (some region)) address → (origin : ℕ) × In (some region) origin × (folded profile origin ≡ address))
-    go true e =
-        simp e
-        (λ address h. omega arith, λ address h. (region .first / blockLength * blockLength + address, omega arith, omega arith))
-    go false e = simp e (λ address h. h, λ address h. (address, h, refl))
-
 module _ (profile line column mode : ℕ) (hl : line < lines) (hc : column < columns) where
-  screen-case : (upper hires : Bool) → ltb line bitmapLines ≡ upper → isHires mode ≡ hires
-      → In (screenRegion line mode) (screenAddress 0 line column mode) × InBlock (screenAddress 0 line column mode)
+  screen-case : (upper hires : Bool) → ltb line bitmapLines ≡ upper → isHires mode ≡ hires → InBlock (screenAddress 0 line column mode)
   screen-case true true u h = simp (u, h) (omega (arith, ltb-true line bitmapLines u))
   screen-case true false u h = simp (u, h) (omega (arith, ltb-true line bitmapLines u))
   screen-case false true u h = simp (u, h) (omega (arith, ltb-false line bitmapLines u))
@@ -59,12 +34,7 @@ module _ (profile line column mode : ℕ) (hl : line < lines) (hc : column < col
 
   -- the screen byte of a cell
   pub screen-in-block : InBlock (screenAddress 0 line column mode)
-  screen-in-block = screen-case (ltb line bitmapLines) (isHires mode) refl refl .1
-
-  pub screen-in-region : In (foldedRegion profile (screenRegion line mode)) (screenAddress profile line column mode)
-  screen-in-region =
-      regions-fold profile (screenRegion line mode) (regions-in-one-block line mode .0) .0 (screenAddress 0 line column mode)
-      (screen-case (ltb line bitmapLines) (isHires mode) refl refl .0)
+  screen-in-block = screen-case (ltb line bitmapLines) (isHires mode) refl refl
 
   pub screen-below : screenAddress profile line column mode < 0xC000
   screen-below = omega (arith, folded-most profile (screenAddress 0 line column mode), screen-in-block)
@@ -83,37 +53,20 @@ pub set-in : (mode : ℕ) → (hiresCharacters ≤ characterSet mode) × (charac
 set-in mode =
     cond-all (λ (n : ℕ). (hiresCharacters ≤ n) × (n ≤ textCharacters)) (isHires mode) hiresCharacters textCharacters (omega arith) (omega arith)
 
+pub row-most : (line style : ℕ) → characterRow line style ≤ 7
+row-most line style = cond-most (bit 2 style) (line / 2 % 8) (line % 8) (omega arith) (omega arith)
+
+pub offset-most : (style : ℕ) → alternateOffset style ≤ 0x400
+offset-most style = cond-most (bit 1 style) 0x400 0 (omega arith) (omega arith)
+
 module _ (profile line mode style code : ℕ) (hc : code < 128) where
-  row-most : characterRow line style ≤ 7
-  row-most = cond-most (bit 2 style) (line / 2 % 8) (line % 8) (omega arith) (omega arith)
-
-  offset-most : alternateOffset style ≤ 0x400
-  offset-most = cond-most (bit 1 style) 0x400 0 (omega arith) (omega arith)
-
   -- any character byte of a set
   pub characters-in-block : InBlock (characterAddress 0 line mode style code)
-  characters-in-block = omega (arith, set-in mode, row-most, offset-most)
+  characters-in-block = omega (arith, set-in mode, row-most line style, offset-most style)
 
   -- counted from the start of the block
   pub character-moved : characterSet mode - videoBlock + alternateOffset style + 8 * code + characterRow line style ≡ characterAddress 1 line mode style code
-  character-moved = omega (arith, set-in mode, row-most, offset-most)
-
-  pub characters-below : characterAddress profile line mode style code < 0xC000
-  characters-below = omega (arith, folded-most profile (characterAddress 0 line mode style code), characters-in-block)
+  character-moved = omega (arith, set-in mode, row-most line style, offset-most style)
 
   pub characters-inside : characterAddress profile line mode style code < imageLength profile
   characters-inside = folded-inside profile (characterAddress 0 line mode style code) (omega (arith, characters-in-block))
-
-  definition-case : (upper hires : Bool) → ltb line bitmapLines ≡ upper → isHires mode ≡ hires → isBitmap line mode ≡ false
-      → In (definitionRegion line mode) (characterAddress 0 line mode style code)
-  definition-case true true u h picture = absurd (true≢false (simp (u, h) at picture))
-  definition-case true false u h picture = simp (u, h) (omega (arith, row-most, offset-most))
-  definition-case false true u h picture = simp (u, h) (omega (arith, row-most, offset-most))
-  definition-case false false u h picture = simp (u, h) (omega (arith, row-most, offset-most))
-
-  -- the character byte of a picture that shows no bitmap
-  pub definition-in-region : isBitmap line mode ≡ false
-      → In (foldedRegion profile (definitionRegion line mode)) (characterAddress profile line mode style code)
-  definition-in-region picture =
-      regions-fold profile (definitionRegion line mode) (regions-in-one-block line mode .1) .0 (characterAddress 0 line mode style code)
-      (definition-case (ltb line bitmapLines) (isHires mode) refl refl picture)

@@ -3,33 +3,21 @@
 -- Assumes nothing.
 use Prim.Native.Nat.{ℕ, zero, suc, _<_, _≤_, _%_}
 use mathlib.Core.Bool.{Bool, true, false, cond, _||_}
-use mathlib.Core.List.{[], _∷_, map, map-id, Option·toList}
+use mathlib.Core.List.{[], _∷_, map}
 use mathlib.Core.Option.{none, some}
 use mathlib.Core.Path.{_≡_, refl, sym, ap, _∙_}
 use native.Mathlib.Omega.{arith}
-use Rattle.machine.specs.Image.{Image, byteAt}
-use Rattle.machine.specs.Lists.{Each}
+use Rattle.machine.specs.Image.{byteAt}
 use Rattle.machine.specs.Sizes.{columns, lines}
-use Rattle.machine.proofs.Each.{each-head, each-tail, each-piece, each-mapped, each-joined}
 use Rattle.machine.proofs.Lists.{gather-mapped}
 use Rattle.video.specs.Address.{isBitmap, screenAddress, characterAddress}
-use Rattle.video.specs.Cell.{Cell, cell, screenByte, registersAfter, characterUsed, coloursOf, pattern, screenAddresses, used}
-use Rattle.video.specs.Frame.{modeAfterLines, modeBefore, lineOf, firstLines, frameCells}
-use Rattle.video.specs.Laws.{Agree, PathByScreenBytes, FrameByUsedBytes}
+use Rattle.video.specs.Cell.{Cell, cell, screenByte, registersAfter, characterUsed, coloursOf, pattern}
+use Rattle.video.specs.Frame.{modeAfterLines, modeBefore, lineOf, firstLines}
 use Rattle.video.specs.Line.{registersBefore, cellAt, firstCells, lineCells, modeAfterLine}
-use Rattle.video.specs.Ram.{Ram, ramOf}
+use Rattle.video.specs.Ram.{Ram}
 use Rattle.video.specs.Registers.{isAttribute}
 use Rattle.video.proofs.Frames.{mode-suc}
 use Rattle.video.specs.declared.registers.Registers.{Registers}
-use Rattle.video.specs.declared.state.State.{State}
-
--- what holds of each cell of a frame holds of the cell at a line and a column
-cell-in : (P : Cell → Type 0) (image : Image) (state : State) → Each P (frameCells image state)
-    → (line column : ℕ) → line < lines → column < columns
-    → let ram = ramOf image state in P (cellAt ram (state .counter) line (modeBefore ram (state .mode) line) column)
-unfolding firstLines firstCells
-cell-in P image state p line column hl hc =
-    each-head P _ [] (each-piece P _ columns (each-piece P _ lines p line hl) column hc)
 
 module _ (first second : Ram) where
   -- the same screen byte at a cell
@@ -58,7 +46,7 @@ module _ (first second : Ram) where
       ∙ ap (registersAfter (registersBefore first line mode n)) (sym (same n (omega arith)))
 
   -- the mode before a line
-  path-lines : (mode : ℕ)
+  pub path-lines : (mode : ℕ)
       → ((line column : ℕ) → line < lines → column < columns → SameScreen line column (registersBefore first line (modeBefore first mode line) column .mode))
       → (n : ℕ) → n ≤ lines → modeBefore second mode n ≡ modeBefore first mode n
   unfolding modeAfterLines
@@ -122,35 +110,3 @@ module _ (first second : Ram) where
         gather-mapped change (lineOf first counter mode) (lineOf second counter mode) lines (λ line hl.
         ap (lineCells second counter line) (path-lines mode (λ line column hl hc. same line column hl hc .screen) line (omega arith))
         ∙ line-changed line (modeBefore first mode line) (λ column hc. same line column hl hc))
-
--- two images of one profile
-module _ (first second : Image) (state : State) where
-  abbrev Same : ℕ → Type 0
-  Same address = byteAt first address ≡ byteAt second address
-
-  -- the character byte that a cell uses
-  character-same : (line : ℕ) (before : Registers) (byte : ℕ) → Each Same (Option·toList (characterUsed (state .profile) line before byte))
-      → (isAttribute byte || isBitmap line (before .mode)) ≡ false
-      → Same (characterAddress (state .profile) line (before .mode) (before .style) (byte % 128))
-  unfolding characterUsed Option·toList
-  character-same line before byte agree e = each-head Same _ [] (simp e at agree)
-
-pub path-by-screen-bytes : PathByScreenBytes
-unfolding screenAddresses cellAt cell screenByte
-path-by-screen-bytes first second state agree =
-    path-lines (ramOf first state) (ramOf second state) (state .mode)
-    (cell-in (λ (c : Cell). Same first second state (c .screen)) first state (each-mapped (Same first second state) (λ (c : Cell). c .screen) (frameCells first state) agree))
-
-pub frame-by-used-bytes : FrameByUsedBytes
-unfolding used cellAt cell screenByte
-frame-by-used-bytes first second state agree =
-    let Alike : Cell → Type 0 = λ (c : Cell). Agree first second (c .screen ∷ Option·toList (c .character)) in
-    let alike = cell-in Alike first state (each-joined (Same first second state) _ (frameCells first state) agree) in
-    frame-changed (ramOf first state) (ramOf second state) (λ (c : Cell). c) (state .counter)
-    (λ line column before same. cell-read (ramOf first state) (ramOf second state) (state .counter) line column before same)
-    (state .mode)
-    (λ line column hl hc. record {
-      screen = each-head (Same first second state) _ _ (alike line column hl hc);
-      character = character-same first second state line _ _ (each-tail (Same first second state) _ _ (alike line column hl hc));
-    })
-    ∙ map-id (frameCells first state)

@@ -4,9 +4,9 @@ use Prim.Native.Nat.{ℕ}
 use mathlib.Core.List.{List}
 use mathlib.Core.Path.{_≡_, sym, ap, _∙_}
 use Rattle.machine.proofs.Refusals.{done, refused}
+use Rattle.used_map.specs.Map.{marked}
 use Rattle.video.specs.Answer.{painted, unpainted, paintedBy, filledBy, mappedBy}
 use Rattle.video.specs.Cell.{Cell, pixels, used}
-use Rattle.video.specs.Map.{marked}
 use Rattle.video.specs.declared.state.State.{State}
 
 module _ (number : ℕ) (state after : State) (cells : List Cell) (lent : List ℕ) where

@@ -13,18 +13,18 @@ use Rattle.machine.specs.Lists.{Each}
 use Rattle.machine.specs.Sizes.{columns, lines}
 use Rattle.machine.proofs.Choice.{cond-all, cond-both}
 use Rattle.machine.proofs.Each.{each-head, each-tail, each-map}
+use Rattle.used_map.specs.Map.{byteBits, mapLength, marked}
+use Rattle.used_map.proofs.Marks.{Bytes, marked-part}
 use Rattle.video.specs.Address.{videoBlock, screenAddress, characterAddress}
 use Rattle.video.specs.Answer.{painted, cellsOfLine}
 use Rattle.video.specs.Cell.{Cell, pixels, used}
 use Rattle.video.specs.Frame.{frameCells}
 use Rattle.video.specs.Internal.{blockOf, blockMarks}
 use Rattle.video.specs.Laws.{StandsIn, foldedCell}
-use Rattle.video.specs.Map.{byteBits, mapLength, marked}
 use Rattle.video.specs.State.{withProfile}
 use Rattle.video.proofs.Addresses.{InBlock, block-moved, screen-in-block, characters-in-block}
 use Rattle.video.proofs.Folded.{folded-twice, line-folded, frame-folds, pixels-folded, used-folded, painted-folded}
-use Rattle.video.proofs.Marks.{Bytes, marked-part}
-use Rattle.video.proofs.Places.{used-of-line, used-of-frame}
+use Rattle.video.proofs.Used.{used-of-line, used-of-frame}
 use Rattle.video.specs.declared.state.State.{State}
 
 module _ (profile : ℕ) (memory : Image) (sized : IsImage profile memory) where

@@ -8,15 +8,19 @@ use mathlib.Core.Path.{_≡_, refl, ap}
 use native.Mathlib.Omega.{arith}
 use lib.Dec.{ltb}
 use lib.ListN.{length, length-map}
+use Rattle.machine.specs.Bits.{bit}
 use Rattle.machine.specs.Image.{byteAt}
+use Rattle.machine.specs.Lists.{Each}
 use Rattle.machine.specs.Sizes.{cellLength, lastMode}
-use Rattle.machine.proofs.Choice.{cond-all}
+use Rattle.machine.proofs.Choice.{cond-all, cond-most}
+use Rattle.machine.proofs.Each.{each-replicate, each-map}
 use Rattle.video.specs.Address.{isBitmap, screenAddress, characterAddress}
 use Rattle.video.specs.Cell.{cell, screenByte, registersAfter, characterUsed, pattern, coloursOf}
 use Rattle.video.specs.Internal.{paintedCell, shown}
-use Rattle.video.specs.Pattern.{complemented}
+use Rattle.video.specs.Pattern.{patternColour, patternWeights, complemented}
 use Rattle.video.specs.Ram.{Ram}
 use Rattle.video.specs.Registers.{isAttribute, latched, shownInk}
+use Rattle.video.proofs.Choice.{shown-most, complemented-most}
 use Rattle.video.proofs.Words.{low-six}
 use Rattle.video.specs.declared.cell.PaintedCell.{PaintedCell}
 use Rattle.video.specs.declared.registers.Registers.{Registers}
@@ -52,6 +56,20 @@ unfolding cell coloursOf
 cell-six ram counter line column before =
     let byte = screenByte ram line column (before .mode) in
     simp length-map (cond-all (λ (l : List ℕ). length l ≡ cellLength) (isAttribute byte) _ _ refl refl)
+
+-- each is 0 to 7
+pub colours-most : (ram : Ram) (counter line : ℕ) (before : Registers) (byte : ℕ) → Coloured before
+    → Each (λ (pixel : ℕ). pixel ≤ 7) (coloursOf ram counter line before byte)
+unfolding coloursOf registersAfter
+colours-most ram counter line before byte h =
+    let Small : ℕ → Type 0 = λ (pixel : ℕ). pixel ≤ 7 in
+    let after = after-coloured before byte h in
+    let ink = shown-most before counter (h .ink) (h .paper) in
+    let shown = pattern (ram .image) byte (characterUsed (ram .profile) line before byte) in
+    each-map Small (complemented byte) _ (λ pixel m. complemented-most byte pixel
+    (cond-all (Each Small) (isAttribute byte) _ _ (each-replicate Small 6 (after .paper))
+    (each-map Small (patternColour (shownInk before counter) (before .paper) shown) patternWeights
+    (λ weight m. cond-most (bit weight shown) (shownInk before counter) (before .paper) ink (h .paper))) pixel m))
 
 -- a cell as the program paints it, from the byte that it read
 module _ (ram : Ram) (counter line column : ℕ) (before : Registers) where

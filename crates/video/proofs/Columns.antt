@@ -10,14 +10,14 @@ use lib.ListN.{length, take, set, length-set}
 use lib.Seq.{take-suc-set, take-all}
 use Rattle.machine.specs.Lists.{gather}
 use Rattle.machine.specs.Sizes.{columns}
+use Rattle.used_map.specs.Map.{marked}
+use Rattle.used_map.proofs.Marks.{Bytes, marked-none, marks-join}
 use Rattle.video.specs.Cell.{Cell, cell, characterAddresses, used}
 use Rattle.video.specs.Internal.{paintedCell, usedBy, paintedLine}
 use Rattle.video.specs.Line.{registersBefore, cellAt, firstCells, lineCells}
-use Rattle.video.specs.Map.{marked}
 use Rattle.video.specs.Ram.{Ram}
 use Rattle.video.specs.Registers.{lineReset}
 use Rattle.video.proofs.Lines.{cells-next, cells-length, registers-next, registers-coloured, line-uses-screen-bytes}
-use Rattle.video.proofs.Marks.{Bytes, marked-none, marks-join}
 use Rattle.video.proofs.Readings.{characters-one, characters-most, used-one, used-append}
 use Rattle.video.specs.declared.cell.PaintedCell.{PaintedCell}
 use Rattle.video.specs.declared.line.PaintedLine.{PaintedLine}

@@ -14,9 +14,8 @@ use Rattle.machine.proofs.Choice.{cond-all}
 use Rattle.video.specs.Address.{videoBlock, isBitmap, screenAddress, characterAddress}
 use Rattle.video.specs.Answer.{painted}
 use Rattle.video.specs.Cell.{Cell, cell, screenByte, characterUsed, pixels, screenAddresses, characterAddresses, used, modeLeft}
-use Rattle.video.specs.Frame.{frameCells}
 use Rattle.video.specs.Internal.{blockRam}
-use Rattle.video.specs.Laws.{foldedCell, StandsIn, FrameFolds, FoldedFrameShowsSame}
+use Rattle.video.specs.Laws.{foldedCell, StandsIn, FrameFolds}
 use Rattle.video.specs.Line.{lineCells}
 use Rattle.video.specs.Ram.{Ram, ramOf}
 use Rattle.video.specs.Registers.{isAttribute}
@@ -128,8 +127,3 @@ module _ (profile : ℕ) where
   -- and so it is with what a painting answers
   pub painted-folded : (state : State) (cells : List Cell) → painted state (foldedCells cells) ≡ painted state cells
   painted-folded state cells = rw (mode-folded (state .mode) cells, screens-folded cells, characters-folded cells)
-
-pub folded-frame-shows-same : FoldedFrameShowsSame
-folded-frame-shows-same small large state stands =
-    rw (frame-folds small large state stands)
-    (pixels-folded 1 (frameCells large state), used-folded 1 (frameCells large state), painted-folded 1 state (frameCells large state))

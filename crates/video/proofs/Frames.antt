@@ -1,25 +1,22 @@
 -- The mode's path down the lines of a frame, and the sizes of its first n lines.
 -- Assumes nothing.
 use Prim.Native.Nat.{ℕ, zero, suc, _+_, _*_, _<_, _≤_}
-use mathlib.Core.Bool.{Bool, true, false}
 use mathlib.Core.List.{_++_}
 use mathlib.Core.Path.{_≡_, refl, ap, _∙_}
 use native.Mathlib.Numerals.{add-one}
 use native.Mathlib.Omega.{arith}
-use lib.Dec.{eqb, leb·zero}
+use lib.Dec.{leb·zero}
 use lib.ListN.{length}
-use borrow.Author.Tests.{eqb-false}
 use Rattle.machine.specs.Image.{Image}
 use Rattle.machine.specs.Lists.{gather, Each}
-use Rattle.machine.specs.Sizes.{columns, lines, lastMode, lastCount}
+use Rattle.machine.specs.Sizes.{columns, lines, lastMode}
 use Rattle.machine.proofs.Each.{each-gather}
-use Rattle.machine.proofs.Lists.{gather-next, gather-length, gather-at, singles-at}
+use Rattle.machine.proofs.Lists.{gather-next, gather-length}
 use Rattle.video.specs.Cell.{Cell, cell, characterAddresses, modeLeft}
 use Rattle.video.specs.Frame.{modeAfterLines, modeBefore, lineOf, firstLines, frameCells}
-use Rattle.video.specs.Laws.{FrameUsesScreenBytes, StatesStayWithin, CellOfFrame}
-use Rattle.video.specs.Line.{cellAt, firstCells, modeAfterLine}
+use Rattle.video.specs.Laws.{FrameUsesScreenBytes}
+use Rattle.video.specs.Line.{modeAfterLine}
 use Rattle.video.specs.Ram.{Ram, ramOf}
-use Rattle.video.specs.State.{nextCounter}
 use Rattle.video.proofs.Cells.{Coloured}
 use Rattle.video.proofs.Lines.{cells-length, mode-after, mode-small, each-of-line}
 use Rattle.video.proofs.Readings.{modeLeft-append, screens-length, characters-most}
@@ -45,7 +42,7 @@ module _ (ram : Ram) (counter mode : ℕ) where
   unfolding firstLines
   lines-next n = gather-next (lineOf ram counter mode) n
 
-  line-length : (line : ℕ) → length (lineOf ram counter mode line) ≡ columns
+  pub line-length : (line : ℕ) → length (lineOf ram counter mode line) ≡ columns
   line-length line = cells-length ram counter line (modeBefore ram mode line) columns
 
   pub lines-length : (n : ℕ) → length (firstLines ram counter mode n) ≡ columns * n
@@ -67,29 +64,6 @@ module _ (ram : Ram) (counter mode : ℕ) where
 pub frame-uses-screen-bytes : FrameUsesScreenBytes
 frame-uses-screen-bytes image state =
     screens-length (frameCells image state) ∙ lines-length (ramOf image state) (state .counter) (state .mode) lines
-
-counter-small : (counter : ℕ) → counter ≤ lastCount → nextCounter counter ≤ lastCount
-counter-small counter h = go (eqb counter lastCount) refl
-  where
-    go : (last : Bool) → eqb counter lastCount ≡ last → nextCounter counter ≤ lastCount
-    go true e = simp e (omega arith)
-    go false e = simp e (omega (arith, eqb-false counter lastCount e))
-
-pub states-stay-within : StatesStayWithin
-states-stay-within image state within =
-    record {
-      mode = rw (mode-down (ramOf image state) (state .counter) (state .mode) lines) (modes-small (ramOf image state) (state .mode) (within .mode) lines);
-      counter = counter-small (state .counter) (within .counter);
-      profile = within .profile;
-    }
-
-pub cell-of-frame : CellOfFrame
-unfolding firstLines firstCells
-cell-of-frame image state line column other hl hc =
-    let ram = ramOf image state in
-    let cells = lineOf ram (state .counter) (state .mode) in
-    gather-at cells columns (line-length ram (state .counter) (state .mode)) lines line column other hl hc
-    ∙ singles-at (cellAt ram (state .counter) line (modeBefore ram (state .mode) line)) columns column other hc
 
 -- what holds of the cell at each line and column holds of each cell of the frame
 pub each-of-frame : (P : Cell → Type 0) (image : Image) (state : State)

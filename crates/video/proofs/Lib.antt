@@ -6,11 +6,9 @@ pub mod Block
 pub mod Cells
 pub mod Choice
 pub mod Columns
-pub mod Entries
 pub mod Folded
 pub mod Frames
 pub mod Lines
-pub mod Marks
-pub mod Places
 pub mod Readings
+pub mod Used
 pub mod Words

@@ -5,7 +5,7 @@ use mathlib.Core.Bool.{Bool, cond, _&&_}
 use lib.Dec.{ltb}
 use Rattle.machine.specs.Bits.{bit}
 use Rattle.machine.specs.Image.{folded}
-use Rattle.machine.specs.Sizes.{columns}
+use Rattle.card.specs.Card.{bitmapLines, textStart, hiresStart}
 
 -- all used bytes lie in the block from 8000 to BFFF
 abbrev pub videoBlock : ℕ
@@ -15,21 +15,9 @@ videoBlock = 0x8000
 abbrev pub isHires : ℕ → Bool
 isHires mode = bit 4 mode
 
--- lines 0 to 199 can show a bitmap
-abbrev pub bitmapLines : ℕ
-bitmapLines = 200
-
--- those in hires show their screen bytes as patterns
+-- lines that can show a bitmap show their screen bytes as patterns in hires
 abbrev pub isBitmap : ℕ → ℕ → Bool
 isBitmap line mode = ltb line bitmapLines && isHires mode
-
--- where the screen bytes of a line begin in text: eight lines share a row
-abbrev pub textStart : ℕ → ℕ
-textStart line = 0xBB80 + columns * (line / 8)
-
--- and in hires: lines 200 to 223 are as text
-abbrev pub hiresStart : ℕ → ℕ
-hiresStart line = cond (ltb line bitmapLines) (0xA000 + columns * line) (textStart line)
 
 -- the address of a cell's screen byte, folded
 abbrev pub screenAddress : ℕ → ℕ → ℕ → ℕ → ℕ

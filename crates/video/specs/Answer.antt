@@ -5,11 +5,11 @@ use mathlib.Core.List.{List, [], _∷_, _++_}
 use lib.ListN.{length}
 use Rattle.machine.specs.Refusal.{Check, refusal, ifDone, memoryCheck, outputCheck, modeCheck, counterCheck, lineCheck, columnCheck, profileCheck}
 use Rattle.machine.specs.Sizes.{lineLength, frameLength}
+use Rattle.used_map.specs.Map.{mapLength, marked}
 use Rattle.video.specs.Address.{screenAddress}
 use Rattle.video.specs.Cell.{Cell, pixels, screenAddresses, characterAddresses, used, modeLeft}
 use Rattle.video.specs.Frame.{frameCells}
 use Rattle.video.specs.Line.{lineCells}
-use Rattle.video.specs.Map.{mapLength, marked}
 use Rattle.video.specs.Ram.{ramOf}
 use Rattle.video.specs.State.{withMode, afterFrame}
 use Rattle.video.specs.declared.address.Address.{Address}

@@ -9,7 +9,8 @@ use lib.ListN.{length, take, drop}
 use Rattle.machine.specs.Bits.{bit}
 use Rattle.machine.specs.Image.{Image, blockLength, folded}
 use Rattle.machine.specs.Sizes.{columns}
-use Rattle.video.specs.Address.{videoBlock, textStart, hiresStart}
+use Rattle.card.specs.Card.{textStart, hiresStart}
+use Rattle.video.specs.Address.{videoBlock}
 use Rattle.video.specs.Cell.{Cell, screenAddresses, characterAddresses}
 use Rattle.video.specs.Line.{registersBefore, lineCells}
 use Rattle.video.specs.Pattern.{patternWeights, patternColours, complemented}

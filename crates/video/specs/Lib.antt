@@ -1,14 +1,11 @@
 pub mod State
 pub mod Ram
 pub mod Address
-pub mod Card
 pub mod Registers
 pub mod Pattern
 pub mod Cell
 pub mod Line
 pub mod Frame
-pub mod Map
 pub mod Answer
-pub mod Region
 pub mod Laws
 pub mod Internal

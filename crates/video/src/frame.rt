@@ -3,10 +3,10 @@ ghost use mathlib.Core.Path.{_≡_};
 ghost use lib.ListN.{length};
 ghost use Rattle.machine.specs.Image.{IsImage};
 ghost use Rattle.machine.specs.Sizes.{frameLength};
+ghost use Rattle.used_map.specs.Map.{marked};
 ghost use Rattle.video.specs.Answer.{painted, frameAnswer, frameContents, mappedFrameAnswer, mappedFrameContents, mappedFrameMap};
 ghost use Rattle.video.specs.Cell.{pixels, used};
 ghost use Rattle.video.specs.Frame.{frameCells};
-ghost use Rattle.video.specs.Map.{marked};
 ghost use Rattle.video.specs.State.{Within, withProfile, afterFrame};
 use crate::address::Scanline;
 use crate::address::video_block;
@@ -16,18 +16,18 @@ use crate::answer::picture_refusal;
 use crate::answer::refused;
 use crate::answer::state_refusal;
 use crate::bits::wide;
-use crate::card::line_starts;
 use crate::line::fill_line;
 use crate::map::BLOCK_MARKS;
-use crate::map::MAP_LENGTH;
 use crate::map::block_marks;
 use crate::registers::Registers;
 use crate::state::State;
+use card::line_starts;
 use machine::DONE;
 use machine::FRAME_LENGTH;
 use machine::LINE_LENGTH;
 use machine::LINES;
 use machine::output_refusal;
+use used_map::MAP_LENGTH;
 
 // One painted frame. Refusals 12, 1, 2, 3, 4.
 pub fn paint_frame(memory: &[u8], state: State, frame: &mut [u8]) -> Painted

@@ -5,11 +5,11 @@ ghost use mathlib.Core.List.{map};
 ghost use lib.ListN.{length};
 ghost use Rattle.machine.specs.Image.{IsImage};
 ghost use Rattle.machine.specs.Sizes.{columns, lines, lineLength};
+ghost use Rattle.used_map.specs.Map.{marked};
 ghost use Rattle.video.specs.Answer.{painted, cellsOfLine, lineAnswer, lineContents, mappedLineAnswer, mappedLineContents, mappedLineMap};
 ghost use Rattle.video.specs.Cell.{Cell, pixels, used};
 ghost use Rattle.video.specs.Internal.{blockRam, scanline, paintedLine};
 ghost use Rattle.video.specs.Line.{lineCells};
-ghost use Rattle.video.specs.Map.{marked};
 ghost use Rattle.video.specs.State.{Within, withProfile};
 use crate::address::Scanline;
 use crate::address::video_block;
@@ -19,20 +19,20 @@ use crate::answer::picture_refusal;
 use crate::answer::refused;
 use crate::answer::state_refusal;
 use crate::bits::wide;
-use crate::card::line_starts;
 use crate::cell::paint_cell;
 use crate::map::BLOCK_MARKS;
-use crate::map::MAP_LENGTH;
 use crate::map::block_marks;
 use crate::map::mark_cell;
 use crate::registers::Registers;
 use crate::state::State;
+use card::line_starts;
 use machine::CELL_LENGTH;
 use machine::COLUMNS;
 use machine::DONE;
 use machine::LINE_LENGTH;
 use machine::line_refusal;
 use machine::output_refusal;
+use used_map::MAP_LENGTH;
 
 // The registers that a line leaves, and how many screen bytes and character bytes it used.
 pub(crate) struct PaintedLine {

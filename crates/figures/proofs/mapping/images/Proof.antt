@@ -4,7 +4,7 @@ use Prim.Native.Nat.{_≤_, _-_}
 use mathlib.Core.Path.{_≡_}
 use lib.ListN.{length}
 use borrow.Author.Needs.{needs}
-use Rattle.video.specs.Map.{mapLength}
+use Rattle.used_map.specs.Map.{mapLength}
 use Rattle.figures.proofs.mapping.images.Statement.{statement}
 use Rattle.figures.proofs.mapping.images.Tie as tie
 

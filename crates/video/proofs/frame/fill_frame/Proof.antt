@@ -10,14 +10,14 @@ use denote.Ref.{now}
 use borrow.Rule.Slice.PartMut.{putMid}
 use Rattle.machine.specs.Sizes.{lines, lineLength}
 use Rattle.machine.proofs.Lists.{piece-size}
+use Rattle.used_map.specs.Map.{marked}
+use Rattle.used_map.proofs.Marks.{Bytes, marked-length}
 use Rattle.video.specs.Cell.{pixels, used}
 use Rattle.video.specs.Frame.{firstLines}
 use Rattle.video.specs.Internal.{blockRam, paintedLine}
 use Rattle.video.specs.Line.{lineCells}
-use Rattle.video.specs.Map.{marked}
 use Rattle.video.specs.Ram.{Ram}
 use Rattle.video.proofs.Frames.{modes-small}
-use Rattle.video.proofs.Marks.{Bytes, marked-length}
 use Rattle.video.proofs.frame.fill_frame.Proof.Progress.{Reached, none, none-marked, next, next-marked, few, all, all-marked}
 use Rattle.video.specs.declared.address.Scanline.{Scanline}
 use Rattle.video.specs.declared.registers.Registers.{Registers}

@@ -10,15 +10,15 @@ use denote.Ref.{now}
 use borrow.Author.Needs.{needs}
 use Rattle.machine.specs.Refusal.{given, refusalBefore}
 use Rattle.machine.specs.Sizes.{frameLength}
+use Rattle.used_map.specs.Map.{mapLength}
+use Rattle.used_map.proofs.Marks.{Bytes}
 use Rattle.video.specs.Answer.{mapCheck, frameChecks, mappedFrameRefusal, mappedFrameAnswer, mappedFrameContents, mappedFrameMap}
 use Rattle.video.specs.Cell.{Cell}
 use Rattle.video.specs.Frame.{frameCells}
-use Rattle.video.specs.Map.{mapLength}
 use Rattle.video.specs.State.{afterFrame}
 use Rattle.video.proofs.Accepted.{Paintable, accepted-mapping}
 use Rattle.video.proofs.Answers.{painting-refused, painting-done, mapping-refused, mapping-done}
 use Rattle.video.proofs.Block.{block-sized, frame-of-block, frame-marks}
-use Rattle.video.proofs.Marks.{Bytes}
 use Rattle.video.proofs.frame.paint_frame_mapped.Statement.{statement}
 use Rattle.video.proofs.frame.paint_frame_mapped.Tie as tie
 

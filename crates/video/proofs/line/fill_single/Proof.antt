@@ -6,10 +6,10 @@ use native.Mathlib.Omega.{arith}
 use denote.Ref.{now}
 use borrow.Author.Needs.{needs}
 use Rattle.machine.specs.Sizes.{columns}
+use Rattle.used_map.specs.Map.{marked}
 use Rattle.video.specs.Cell.{pixels, used}
 use Rattle.video.specs.Internal.{blockRam, paintedLine}
 use Rattle.video.specs.Line.{lineCells}
-use Rattle.video.specs.Map.{marked}
 use Rattle.video.specs.Ram.{Ram}
 use Rattle.video.proofs.Lines.{cells-length, mode-after, mode-small, line-uses-screen-bytes}
 use Rattle.video.proofs.Readings.{characters-most}

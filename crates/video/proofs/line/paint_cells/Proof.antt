@@ -2,7 +2,7 @@
 -- Assumes nothing.
 use denote.Ref.{now}
 use borrow.Author.Needs.{needs}
-use Rattle.video.proofs.Marks.{marked-empty}
+use Rattle.used_map.proofs.Marks.{marked-empty}
 use Rattle.video.proofs.line.paint_cells.Statement.{statement}
 use Rattle.video.proofs.line.paint_cells.Tie as tie
 

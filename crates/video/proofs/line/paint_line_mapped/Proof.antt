@@ -11,13 +11,13 @@ use borrow.Author.Needs.{needs}
 use Rattle.machine.specs.Refusal.{given, refusalBefore, lineCheck}
 use Rattle.machine.specs.Sizes.{lines, lineLength}
 use Rattle.machine.proofs.Refusals.{line-passed}
+use Rattle.used_map.specs.Map.{mapLength}
+use Rattle.used_map.proofs.Marks.{Bytes}
 use Rattle.video.specs.Answer.{stateChecks, mapCheck, lineChecks, cellsOfLine, mappedLineRefusal, mappedLineAnswer, mappedLineContents, mappedLineMap}
 use Rattle.video.specs.Cell.{Cell}
-use Rattle.video.specs.Map.{mapLength}
 use Rattle.video.proofs.Accepted.{Paintable, accepted-mapping}
 use Rattle.video.proofs.Answers.{painting-refused, painting-done, mapping-refused, mapping-done}
 use Rattle.video.proofs.Block.{block-sized, line-of-block, line-marks}
-use Rattle.video.proofs.Marks.{Bytes}
 use Rattle.video.proofs.line.paint_line_mapped.Statement.{statement}
 use Rattle.video.proofs.line.paint_line_mapped.Tie as tie
 

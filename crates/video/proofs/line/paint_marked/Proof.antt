@@ -7,13 +7,13 @@ use native.Mathlib.Omega.{arith}
 use lib.ListN.{length}
 use denote.Ref.{now}
 use Rattle.machine.specs.Sizes.{columns}
+use Rattle.used_map.specs.Map.{marked}
+use Rattle.used_map.proofs.Marks.{Bytes, marked-length}
 use Rattle.video.specs.Cell.{used}
 use Rattle.video.specs.Internal.{blockRam}
 use Rattle.video.specs.Line.{firstCells}
-use Rattle.video.specs.Map.{marked}
 use Rattle.video.specs.Registers.{lineReset}
 use Rattle.video.proofs.Columns.{Reached, none, none-marked, next, next-marked, few, coloured, all, all-marked}
-use Rattle.video.proofs.Marks.{Bytes, marked-length}
 use Rattle.video.specs.declared.registers.Registers.{Registers}
 use Rattle.video.proofs.line.paint_marked.Statement.{statement}
 use Rattle.video.proofs.line.paint_marked.Tie as tie

@@ -6,8 +6,8 @@ use mathlib.Core.Path.{ap, _∙_}
 use denote.Ref.{now}
 use borrow.Author.Needs.{needs}
 use borrow.Author.Tests.{eq-eqb, ne-eqb}
-use Rattle.video.specs.Map.{marked}
-use Rattle.video.proofs.Marks.{marks-join}
+use Rattle.used_map.specs.Map.{marked}
+use Rattle.used_map.proofs.Marks.{marks-join}
 use Rattle.video.proofs.map.mark_cell.Statement.{statement}
 use Rattle.video.proofs.map.mark_cell.Tie as tie
 

@@ -9,10 +9,10 @@ use lib.ListN.{getD}
 use denote.Ref.{now}
 use borrow.Author.Needs.{needs}
 use Rattle.machine.specs.Sizes.{lines}
-use Rattle.video.specs.Address.{videoBlock, isHires, textStart, hiresStart}
-use Rattle.video.specs.Card.{card}
+use Rattle.card.specs.Card.{textStart, hiresStart, card}
+use Rattle.card.proofs.Entries.{entry-of-card}
+use Rattle.video.specs.Address.{videoBlock, isHires}
 use Rattle.video.proofs.Addresses.{InBlock, screen-in-block}
-use Rattle.video.proofs.Entries.{entry-of-card}
 use Rattle.video.proofs.address.Scanline.new.Statement.{statement}
 use Rattle.video.proofs.address.Scanline.new.Tie as tie
 

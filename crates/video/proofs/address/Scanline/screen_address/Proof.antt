@@ -4,7 +4,8 @@ use Prim.Native.Nat.{ℕ, _+_, _-_, _<_}
 use mathlib.Core.Bool.{cond}
 use mathlib.Core.Path.{_≡_, ap, _∙_}
 use native.Mathlib.Omega.{arith}
-use Rattle.video.specs.Address.{videoBlock, isHires, textStart, hiresStart, screenAddress}
+use Rattle.card.specs.Card.{textStart, hiresStart}
+use Rattle.video.specs.Address.{videoBlock, isHires, screenAddress}
 use Rattle.video.proofs.Addresses.{screen-below, screen-moved}
 use Rattle.video.proofs.Choice.{cond-map}
 use Rattle.video.specs.declared.address.Scanline.{Scanline}

@@ -11,17 +11,17 @@ use Rattle.machine.specs.Image.{Image}
 use Rattle.machine.specs.Lists.{gather}
 use Rattle.machine.specs.Sizes.{columns, lines, lineLength, frameLength}
 use Rattle.machine.proofs.Lists.{piece-length, piece-done}
+use Rattle.used_map.specs.Map.{marked}
+use Rattle.used_map.proofs.Marks.{Bytes, marked-none, marks-join}
 use Rattle.video.specs.Answer.{painted}
 use Rattle.video.specs.Cell.{Cell, pixels, characterAddresses, used}
 use Rattle.video.specs.Frame.{modeAfterLines, modeBefore, lineOf, firstLines, frameCells}
 use Rattle.video.specs.Internal.{blockRam, answered, paintedLine}
 use Rattle.video.specs.Line.{lineCells}
-use Rattle.video.specs.Map.{marked}
 use Rattle.video.specs.Ram.{Ram}
 use Rattle.video.specs.State.{withProfile, afterFrame}
 use Rattle.video.proofs.Frames.{lines-next, characters-down, mode-next, mode-down, frame-uses-screen-bytes}
 use Rattle.video.proofs.Lines.{line-pixels, line-uses-screen-bytes}
-use Rattle.video.proofs.Marks.{Bytes, marked-none, marks-join}
 use Rattle.video.proofs.Readings.{pixels-append, characters-append, used-append}
 use Rattle.video.specs.declared.line.PaintedLine.{PaintedLine}
 use Rattle.video.specs.declared.registers.Registers.{Registers}

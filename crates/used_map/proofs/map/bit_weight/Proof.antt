@@ -1,4 +1,4 @@
--- `video::map::bit_weight` meets its contract: no bit is shifted out.
+-- `used_map::map::bit_weight` meets its contract: no bit is shifted out.
 -- Assumes nothing.
 use Prim.Native.Nat.{_^_}
 use mathlib.Core.Path.{_∙_}
@@ -6,8 +6,8 @@ use native.Mathlib.Nat.{one-mul}
 use native.Mathlib.Omega.{arith}
 use lib.Pow.{shl-exact}
 use borrow.Author.Needs.{needs}
-use Rattle.video.proofs.map.bit_weight.Statement.{statement}
-use Rattle.video.proofs.map.bit_weight.Tie as tie
+use Rattle.used_map.proofs.map.bit_weight.Statement.{statement}
+use Rattle.used_map.proofs.map.bit_weight.Tie as tie
 
 returns : tie.Need-returns
 returns c = shl-exact 1 (c .args .number) 8 (omega arith) (omega (arith, c .pre)) ∙ one-mul (2 ^ c .args .number)

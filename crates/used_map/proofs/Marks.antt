@@ -17,8 +17,8 @@ use Rattle.machine.proofs.Bits.{bits-same, bits-below, bit-of-bits, byte-of-bit
 use Rattle.machine.proofs.Choice.{eqb-same}
 use Rattle.machine.proofs.Each.{each-map}
 use Rattle.machine.proofs.Lists.{singles-length, singles-at, in-append, in-none, in-moved, put-before, put-inside, put-after}
-use Rattle.video.specs.Laws.{MarkedExactly, MarksJoin}
-use Rattle.video.specs.Map.{byteBits, isMarked, markedByte, marked}
+use Rattle.used_map.specs.Laws.{MarkedExactly, MarksJoin}
+use Rattle.used_map.specs.Map.{byteBits, isMarked, markedByte, marked}
 
 -- every element is a byte
 abbrev pub Bytes : List ℕ → Type 0

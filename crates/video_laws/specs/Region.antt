@@ -6,7 +6,8 @@ use mathlib.Core.Option.{Option, none, some}
 use mathlib.Core.Path.{_≡_}
 use lib.Dec.{ltb}
 use Rattle.machine.specs.Image.{blockLength, folded}
-use Rattle.video.specs.Address.{isHires, bitmapLines}
+use Rattle.card.specs.Card.{bitmapLines}
+use Rattle.video.specs.Address.{isHires}
 
 -- the addresses from the first to the last, both included
 pub record Region : Type 0 where

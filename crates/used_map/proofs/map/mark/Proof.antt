@@ -1,4 +1,4 @@
--- `video::map::mark` meets its contract: the weight is added in the byte of the address, where the map has it and its bit is not set.
+-- `used_map::mark` meets its contract: the weight is added in the byte of the address, where the map has it and its bit is not set.
 -- Assumes nothing.
 use Prim.Native.Nat.{ℕ, _/_, _%_, _^_}
 use mathlib.Core.Bool.{false}
@@ -9,10 +9,10 @@ use lib.Pow.{pow-pos}
 use denote.Ref.{now}
 use borrow.Author.Needs.{needs}
 use borrow.Author.Tests.{eq-eqb, ne-eqb}
-use Rattle.video.specs.Map.{byteBits, isMarked}
-use Rattle.video.proofs.Marks.{Bytes, marked-added, added-small, marked-already, marked-outside}
-use Rattle.video.proofs.map.mark.Statement.{statement}
-use Rattle.video.proofs.map.mark.Tie as tie
+use Rattle.used_map.specs.Map.{byteBits, isMarked}
+use Rattle.used_map.proofs.Marks.{Bytes, marked-added, added-small, marked-already, marked-outside}
+use Rattle.used_map.proofs.map.mark.Statement.{statement}
+use Rattle.used_map.proofs.map.mark.Tie as tie
 
 -- the map is one of bytes
 bytes : (k : tie.After-slice-known) → Bytes (now (k .before .args .map))

@@ -1,10 +1,10 @@
--- `figures::card::half` is safe and ends: the measure is how many lines are left.
+-- `figures::printing::half` is safe and ends: the measure is how many lines are left.
 -- Assumes nothing.
 use Prim.Native.Nat.{_≤_, _-_}
 use lib.ListN.{length}
 use borrow.Author.Needs.{needs}
-use Rattle.figures.proofs.card.half.Statement.{statement}
-use Rattle.figures.proofs.card.half.Tie as tie
+use Rattle.figures.proofs.printing.half.Statement.{statement}
+use Rattle.figures.proofs.printing.half.Tie as tie
 
 abbrev Inv-loop : tie.InvT-loop
 Inv-loop name starts line₀ t4 line = line ≤ length starts

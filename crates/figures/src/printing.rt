@@ -5,7 +5,7 @@ use machine::LINES;
 const ROW_LENGTH: usize = 8;
 
 pub(crate) fn halves() {
-    let starts = video::line_starts();
+    let starts = card::line_starts();
     half(b"card text ", &starts[0..LINES]);
     half(b"card hires ", &starts[LINES..]);
 }

@@ -10,9 +10,8 @@ use lib.Seq.{length-take-le, getD-append-add}
 use Rattle.machine.specs.Sizes.{lines}
 use Rattle.machine.proofs.Lists.{singles-length, singles-at}
 use Rattle.machine.proofs.Tables.{follows, table-is}
-use Rattle.video.specs.Address.{textStart, hiresStart}
-use Rattle.video.specs.Card.{perLine, card}
-use Rattle.video.specs.Laws.{EntryOfCard}
+use Rattle.card.specs.Card.{textStart, hiresStart, perLine, card}
+use Rattle.card.specs.Laws.{EntryOfCard}
 
 pub entry-of-card : EntryOfCard
 unfolding card

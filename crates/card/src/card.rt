@@ -1,9 +1,9 @@
-// The card of line starts: the address of column 0 of each line in text, then of each in hires, none folded.
+// The address of column 0 of each line in text, then of each in hires, none folded.
 ghost use mathlib.Core.Path.{_≡_};
-ghost use Rattle.video.specs.Card.{card};
+ghost use Rattle.card.specs.Card.{card};
 use machine::LINES;
 
-pub(crate) const CARD_LENGTH: usize = 2 * LINES;
+pub const CARD_LENGTH: usize = 2 * LINES;
 
 // As the card is printed, eight lines to a row; a row is named by its half and its first line.
 #[rattlefmt::skip]

@@ -1,0 +1,3 @@
+pub mod Regions
+pub mod Places
+pub mod Frames

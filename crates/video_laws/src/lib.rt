@@ -1,0 +1,1 @@
+// What holds of every line and every frame. All of it is in specs/ and proofs/.
