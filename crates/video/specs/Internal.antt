@@ -10,6 +10,7 @@ use Rattle.machine.specs.Bits.{bit}
 use Rattle.machine.specs.Image.{Image, blockLength, folded}
 use Rattle.machine.specs.Sizes.{columns}
 use Rattle.card.specs.Card.{textStart, hiresStart}
+use Rattle.used_map.specs.Map.{byteBits}
 use Rattle.video.specs.Address.{videoBlock}
 use Rattle.video.specs.Cell.{Cell, screenAddresses, characterAddresses}
 use Rattle.video.specs.Line.{registersBefore, lineCells}
@@ -95,4 +96,4 @@ spreadWord pattern = wordOf (gapped (map (λ (weight : ℕ). cond (bit weight pa
 
 -- the bytes of a map that have the bits of the block
 abbrev pub blockMarks : ℕ
-blockMarks = 2048
+blockMarks = blockLength / byteBits

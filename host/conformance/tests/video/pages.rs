@@ -9,7 +9,8 @@ use tropfenpfad_conformance::inputs::{
 };
 use tropfenpfad_conformance::model::Video;
 use tropfenpfad_conformance::refusals::{
-    lent_bytes, mapped, FRAME_OUTPUTS, LINES as LINE_NUMBERS, LINE_OUTPUTS, NO_LINES,
+    lent_bytes, mapped, Mapped, Values, FRAME_OUTPUTS, LINES as LINE_NUMBERS, LINE_OUTPUTS,
+    NO_LINES,
 };
 use tropfenpfad_sys::{
     self as ffi, Painted, State, FRAME_LENGTH, IMAGE_LENGTH, LINES, LINE_LENGTH, MAP_LENGTH,
@@ -245,6 +246,18 @@ fn a_line_that_is_painted_beyond_its_240_bytes() {
     in_each_profile(paint_every_line);
 }
 
+/// Makes each call that is to be refused, and says how many there are.
+fn refuse_each(
+    pictures: Values<usize>,
+    lines: Values<usize>,
+    call: impl Fn(Mapped) -> Painted,
+) -> usize {
+    let inputs = mapped(pictures, lines).into_iter();
+    let bad = inputs.filter(|(_, wrong)| wrong.contains(&true));
+    bad.map(|(lent, _)| assert_ne!(call(lent).status, 0, "{lent:?}"))
+        .count()
+}
+
 #[test]
 fn a_refused_painting_with_a_map_that_stores() {
     let [memory, picture, map] = [(); 3].map(|()| Lent::new(Against::Start, lent_bytes()));
@@ -252,44 +265,26 @@ fn a_refused_painting_with_a_map_that_stores() {
         lent.make_read_only();
     }
     let (memory, picture, map) = (memory.pointer(), picture.pointer(), map.pointer());
-    let mut calls = 0;
-    for (lent, wrong) in mapped(LINE_OUTPUTS, LINE_NUMBERS) {
-        if wrong.contains(&true) {
-            // SAFETY: all buffers are open for these lengths and lie in mappings of their own.
-            let answer = unsafe {
-                ffi::tropfenpfad_paint_line_mapped(
-                    memory,
-                    lent.memory,
-                    lent.state,
-                    lent.line,
-                    picture,
-                    lent.picture,
-                    map,
-                    lent.map,
-                )
-            };
-            assert_ne!(answer.status, 0, "{lent:?}");
-            calls += 1;
+    let lines = refuse_each(LINE_OUTPUTS, LINE_NUMBERS, |lent| {
+        let (bytes, pixels, marks) = (lent.memory, lent.picture, lent.map);
+        let (state, line) = (lent.state, lent.line);
+        // SAFETY: all buffers are open for these lengths and lie in mappings of their own.
+        unsafe {
+            ffi::tropfenpfad_paint_line_mapped(
+                memory, bytes, state, line, picture, pixels, map, marks,
+            )
         }
-    }
-    for (lent, wrong) in mapped(FRAME_OUTPUTS, NO_LINES) {
-        if wrong.contains(&true) {
-            // SAFETY: as for a line.
-            let answer = unsafe {
-                ffi::tropfenpfad_paint_frame_mapped(
-                    memory,
-                    lent.memory,
-                    lent.state,
-                    picture,
-                    lent.picture,
-                    map,
-                    lent.map,
-                )
-            };
-            assert_ne!(answer.status, 0, "{lent:?}");
-            calls += 1;
+    });
+    let frames = refuse_each(FRAME_OUTPUTS, NO_LINES, |lent| {
+        let (bytes, pixels, marks) = (lent.memory, lent.picture, lent.map);
+        // SAFETY: as for a line.
+        unsafe {
+            ffi::tropfenpfad_paint_frame_mapped(
+                memory, bytes, lent.state, picture, pixels, map, marks,
+            )
         }
-    }
+    });
+    let calls = lines + frames;
     println!("refused paintings with read-only pages: {calls} bad inputs compared");
 }
 
