@@ -44,7 +44,8 @@ regions-hold image state =
 
 pub used-below-overlay : UsedBelowOverlay
 used-below-overlay image state =
-    used-of-frame (λ (address : ℕ). address < 0xC000) image state (screen-below (state .profile)) (characters-below (state .profile))
+    used-of-frame _ image state (λ line column mode hl hc. omega (arith, screen-below (state .profile) line column mode hl hc))
+    (λ line mode style code h. omega (arith, characters-below (state .profile) line mode style code h))
 
 pub used-in-image : UsedInImage
 used-in-image image state =
