@@ -12,7 +12,7 @@ from pathlib import Path
 ROOT = Path.cwd()
 PART = r"[\w◌·'₂⁻→≢ᴰ⊎-]"
 TOKEN = re.compile(PART + "+")
-DECLARED = re.compile(r"\s*(?:abbrev |unfoldable |pub )*(?:record |data )?(" + PART + r"+)\s*(?::|\(|\{)")
+DECLARED = re.compile(r"\s*(?:abbrev |unfoldable |pub )*(?:record |data )?(" + PART + r"+)\s+:\s")
 CAMEL = re.compile(r"(?<=[a-z0-9])(?=[A-Z])")
 
 # Names that a generated module demands as they are written in it.
@@ -44,7 +44,7 @@ def lemma_files():
     for crate in sorted((ROOT / "crates").iterdir()):
         yield from sorted((crate / "specs").rglob("*.antt"))
         for file in sorted((crate / "proofs").rglob("*.antt")):
-            if file.name not in ("Proof.antt", "Answers.antt", "Invariants.antt"):
+            if file.name != "Proof.antt":
                 yield file
 
 

@@ -1,4 +1,6 @@
 // The bus half: which target an address reaches, and what a read or a write does there.
+#![tactic(auto)]
+
 mod cycle;
 mod in_place;
 mod latch;

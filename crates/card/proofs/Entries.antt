@@ -5,7 +5,7 @@ use mathlib.Core.Bool.{true}
 use mathlib.Core.List.{List, ◌++◌}
 use mathlib.Core.Path.{◌≡◌, sym, ap, ap₂, ◌∙◌}
 use native.Mathlib.Omega.{arith}
-use lib.ListN.{length, get_or, take, drop, length-drop, take-append-drop, get_or_append}
+use lib.ListN.{length, get_or, take, drop, length-drop, take-append-drop, get_or-append}
 use lib.Seq.{length-take-le, get_or-append-add}
 use Rattle.machine.specs.Sizes.{lines}
 use Rattle.machine.proofs.Lists.{singles_length, singles_at}
@@ -17,7 +17,7 @@ pub entry_of_card : EntryOfCard
 unfolding card
 entry_of_card line h =
     let text-half : length (per_line text_start) ≡ lines = singles_length text_start lines in (
-      get_or_append (per_line text_start) (per_line hires_start) 0 line (omega (arith, text-half)) ∙ singles_at text_start lines line 0 h,
+      get_or-append (per_line text_start) (per_line hires_start) 0 line (omega (arith, text-half)) ∙ singles_at text_start lines line 0 h,
       ap (λ (n : ℕ). get_or card (n + line) 0) (sym text-half)
           ∙ get_or-append-add (per_line text_start) (per_line hires_start) line 0
           ∙ singles_at hires_start lines line 0 h,

@@ -8,7 +8,7 @@ use native.Mathlib.Omega.{arith}
 use lib.Dec.{eqb}
 use lib.ListN.{length, get_or, length-append}
 use lib.Seq.{ext_get_or}
-use borrow.Author.Tests.{eq_eqb, ne_eqb, eqb_true, eqb-false, not-false}
+use borrow.Author.Tests.{eq-eqb, ne_eqb, eqb-true, eqb-false, not-false}
 use Rattle.machine.specs.Lists.{gather}
 use Rattle.machine.specs.Refusal.{output_check}
 use Rattle.machine.specs.Sizes.{lines, line_length, frame_length}
@@ -40,7 +40,7 @@ eqb_swap : (a b : ℕ) → eqb a b ≡ eqb b a
 eqb_swap a b = go (eqb a b) refl
   where
     go : (t : Bool) → eqb a b ≡ t → eqb a b ≡ eqb b a
-    go true e = e ∙ sym (eq_eqb b a (sym (eqb_true a b e)))
+    go true e = e ∙ sym (eq-eqb b a (sym (eqb-true a b e)))
     go false e = e ∙ sym (ne_eqb b a (λ same. eqb-false a b e (sym same)))
 
 cond_swap : (p q : Bool) (number later : ℕ) → cond p number (cond q number later) ≡ cond q number (cond p number later)
@@ -85,12 +85,12 @@ empty_is_equal first second counts cells accepted =
     let places = differences first second in
     let is = ap (λ (c : Comparison). c.empty) (answered first second counts cells accepted) in (
       λ e.
-          let none : places ≡ [] = no_length places (eqb_true (length places) 0 (sym is ∙ e)) in
+          let none : places ≡ [] = no_length places (eqb-true (length places) 0 (sym is ∙ e)) in
           ext_get_or 0 first second (sized.one ∙ sym sized.other)
           (λ i h.
           let place : 0 + i ≡ i = omega arith in
           let same = from_nowhere (differs first second) 0 frame_length none i (omega (arith, sized.one)) in
-          eqb_true (get_or first i 0) (get_or second i 0) (not-false (eqb (get_or first i 0) (get_or second i 0)) (rw place at same))),
+          eqb-true (get_or first i 0) (get_or second i 0) (not-false (eqb (get_or first i 0) (get_or second i 0)) (rw place at same))),
       λ e.
           let none : places ≡ [] =
           from_nothing (differs first second) 0 frame_length (λ k h. equal first second (0 + k) (ap (λ (l : List ℕ). get_or l (0 + k) 0) e)) in

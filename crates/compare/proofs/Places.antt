@@ -5,7 +5,7 @@ use mathlib.Core.Bool.{true, false, not}
 use mathlib.Core.List.{List}
 use mathlib.Core.Path.{◌≡◌, ap}
 use lib.ListN.{get_or}
-use borrow.Author.Tests.{eq_eqb, ne_eqb}
+use borrow.Author.Tests.{eq-eqb, ne_eqb}
 use Rattle.compare.specs.Places.{differs}
 
 module _ (first second : List ℕ) (place : ℕ) where
@@ -13,4 +13,4 @@ module _ (first second : List ℕ) (place : ℕ) where
   unequal ne = ap not (ne_eqb (get_or first place 0) (get_or second place 0) ne)
 
   pub equal : get_or first place 0 ≡ get_or second place 0 → differs first second place ≡ false
-  equal e = ap not (eq_eqb (get_or first place 0) (get_or second place 0) e)
+  equal e = ap not (eq-eqb (get_or first place 0) (get_or second place 0) e)

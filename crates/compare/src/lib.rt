@@ -1,4 +1,6 @@
 // A grabbed frame against the reference: which pixels, lines and cells differ.
+#![tactic(auto)]
+
 mod cells;
 mod comparison;
 mod frames;

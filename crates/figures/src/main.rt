@@ -1,5 +1,7 @@
 // The figures of document 01 that are run, the decode of every address, and digests of generated frames, a line each; then the same
 // of the 16K machine; then maps of used addresses, comparisons of frames, slips of lines, traces, and the card of line starts.
+#![tactic(auto)]
+
 mod comparing;
 mod decoding;
 mod generated;

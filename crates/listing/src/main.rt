@@ -1,5 +1,7 @@
 // Paints standard input, the memory image, from the fresh state and writes the frame, or the refusal.
 // Reading and writing only: what is written is made by the functions of text.rt.
+#![tactic(auto)]
+
 mod text;
 
 ghost use Rattle.std.specs.Prelude.{◌≡◌, length};

@@ -8,7 +8,7 @@ use native.Mathlib.Numerals.{one-add}
 use native.Mathlib.Omega.{arith}
 use lib.Dec.{eqb, eqb→eq}
 use lib.Pow.{shr-shr}
-use borrow.Author.Tests.{eq_eqb, ne_eqb}
+use borrow.Author.Tests.{eq-eqb, ne_eqb}
 use Rattle.machine.specs.Bits.{bit, of_bits}
 use Rattle.machine.proofs.Below.{all_below, below}
 use Rattle.machine.proofs.Choice.{cond_most}
@@ -23,7 +23,7 @@ bits_same f g (suc n) same =
 
 -- the lowest bit, and those above it
 low : (first : Bool) (rest : ℕ) → bit 1 (cond first 1 0 + 2 * rest) ≡ first
-low true rest = eq_eqb ((1 + 2 * rest) / 1 % 2) 1 (omega arith)
+low true rest = eq-eqb ((1 + 2 * rest) / 1 % 2) 1 (omega arith)
 low false rest = ne_eqb ((0 + 2 * rest) / 1 % 2) 1 (omega arith)
 
 high : (first : Bool) (rest : ℕ) → (cond first 1 0 + 2 * rest) / 2 ≡ rest

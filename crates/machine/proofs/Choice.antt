@@ -4,7 +4,7 @@ use Prim.Native.Nat.{ℕ, ◌≤◌}
 use mathlib.Core.Bool.{Bool, true, false, cond}
 use mathlib.Core.Path.{◌≡◌, refl}
 use lib.Dec.{eqb}
-use borrow.Author.Tests.{eqb_true, eqb-false, eq_eqb, ne_eqb}
+use borrow.Author.Tests.{eqb-true, eqb-false, eq-eqb, ne_eqb}
 
 -- what holds of both values holds of the chosen one
 pub cond_all : {A : Type 0} (P : A → Type 0) (b : Bool) (x y : A) → P x → P y → P (cond b x y)
@@ -24,5 +24,5 @@ pub eqb_same : (a b c d : ℕ) → (a ≡ b → c ≡ d) → (c ≡ d → a ≡ 
 eqb_same a b c d to from = go (eqb c d) refl
   where
     go : (test : Bool) → eqb c d ≡ test → eqb a b ≡ test
-    go true e = eq_eqb a b (from (eqb_true c d e))
+    go true e = eq-eqb a b (from (eqb-true c d e))
     go false e = ne_eqb a b (λ same. eqb-false c d e (to same))

@@ -5,7 +5,7 @@ use Prim.Native.Nat.{ℕ, ◌%◌, ◌<◌, ◌≤◌}
 use mathlib.Core.Bool.{Bool, true, false}
 use mathlib.Core.Path.{◌≡◌, refl, sym, ◌∙◌}
 use native.Mathlib.Omega.{arith}
-use borrow.Author.Tests.{eqb_true, eqb-false}
+use borrow.Author.Tests.{eqb-true, eqb-false}
 use Rattle.machine.specs.Image.{is_16k, block_length, image_length, folded}
 use Rattle.machine.specs.Sizes.{last_profile}
 use Rattle.machine.proofs.Choice.{cond_most, cond_both}
@@ -23,7 +23,7 @@ pub one_length : (first second : ℕ) → first ≤ last_profile → second ≤ 
 one_length first second f s same = go (is_16k first) (is_16k second) refl refl
   where
     go : (small too : Bool) → is_16k first ≡ small → is_16k second ≡ too → first ≡ second
-    go true true e e' = eqb_true first 1 e ∙ sym (eqb_true second 1 e')
+    go true true e e' = eqb-true first 1 e ∙ sym (eqb-true second 1 e')
     go true false e e' = absurd (omega (arith, simp (e, e') at same))
     go false true e e' = absurd (omega (arith, simp (e, e') at same))
     go false false e e' = omega (arith, eqb-false first 1 e, eqb-false second 1 e')

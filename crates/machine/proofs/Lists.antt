@@ -9,7 +9,7 @@ use native.Mathlib.Nat.{mul-suc, mul-le-mul_left, add-sub_cancel_left, eq-or-lt_
 use native.Mathlib.Numerals.{add-one}
 use native.Mathlib.Omega.{arith}
 use lib.Dec.{eqb}
-use lib.ListN.{length, get_or, take, drop, length-append, length-drop, get_or_append}
+use lib.ListN.{length, get_or, take, drop, length-append, length-drop, get_or-append}
 use lib.Seq.{take_at, length-take-le, get_or-append-add, get_or-take, get_or-drop}
 use borrow.Rule.Slice.PartMut.{put_mid, same_len_mid, take_put, drop_put}
 use borrow.Author.Tests.{ne_eqb}
@@ -53,7 +53,7 @@ module _ {A : Type 0} (f : ℕ → List A) (size : ℕ) (sized : (k : ℕ) → l
       rw e (rw (← gather_length n) (get_or-append-add (gather f n) (f n) j d)))
       (λ (less : i < n).
       let before : size * suc i ≤ size * n = mul-le-mul_left size (omega arith) in
-      get_or_append (gather f n) (f n) d (size * i + j) (omega (arith, gather_length n, mul-suc size i))
+      get_or-append (gather f n) (f n) d (size * i + j) (omega (arith, gather_length n, mul-suc size i))
       ∙ gather_at n i j d less hj)
       (eq-or-lt_of_le (omega arith))
 
@@ -85,7 +85,7 @@ flatten_at size [] sized i j d hi hj = absurd (omega arith)
 flatten_at size (x ∷ xs) sized zero j d hi hj =
     let here = each_head (λ (y : List _). length y ≡ size) x xs sized in
     let place : size * 0 + j ≡ j = omega arith in
-    rw place (get_or_append x (flatten xs) d j (omega arith))
+    rw place (get_or-append x (flatten xs) d j (omega arith))
 flatten_at size (x ∷ xs) sized (suc i) j d hi hj =
     let here = each_head (λ (y : List _). length y ≡ size) x xs sized in
     let place : size * suc i + j ≡ length x + (size * i + j) = omega (arith, mul-suc size i) in
@@ -155,7 +155,7 @@ module _ {A : Type 0} (a n : ℕ) (xs ys : List A) (fits : a + n ≤ length xs) 
       let before : length (take a xs) ≡ a = length-take-le a xs (omega arith) in
       ap (λ (m : ℕ). get_or back (m + k) d) (sym before)
       ∙ get_or-append-add (take a xs) _ k d
-      ∙ get_or_append ys _ d k (omega arith)
+      ∙ get_or-append ys _ d k (omega arith)
 
   pub put_after : (k : ℕ) → a + n ≤ k → get_or back k d ≡ get_or xs k d
   put_after k h =

@@ -12,7 +12,7 @@ use native.Mathlib.Omega.{arith}
 use lib.Dec.{eqb, leb}
 use lib.ListN.{length, length-append}
 use mir.Val.{bool_byte}
-use borrow.Author.Tests.{eq_eqb, ne_eqb, leb-true, leb-false}
+use borrow.Author.Tests.{eq-eqb, ne_eqb, leb-true, leb-false}
 use Rattle.machine.specs.Lists.{gather, Each}
 use Rattle.machine.proofs.Each.{each_none, each_cons, each_head, each_tail, each_gather}
 use Rattle.machine.proofs.Lists.{gather_next, gather_same, flat_map_append}
@@ -206,7 +206,7 @@ module _ (number : ℕ → ℕ) (piece : ℕ → List ℕ) where
       ∙ ⊎_elim
       (λ (last : k ≡ n).
       let here : Each (λ (m : ℕ). is k m ≡ true) (piece n) =
-      λ m at. eq_eqb (number m) k (numbered n (omega arith) m at ∙ sym last) in
+      λ m at. eq-eqb (number m) k (numbered n (omega arith) m at ∙ sym last) in
       let earlier : Each (λ (m : ℕ). is k m ≡ false) (gather piece n) =
       each_gather (λ (m : ℕ). is k m ≡ false) piece n (λ i less m at. ne_eqb (number m) k (λ e. omega (arith, numbered i (omega arith) m at))) in
       ap₂ ◌++◌ (passing_none (is k) (gather piece n) earlier) (passing_all (is k) (piece n) here) ∙ ap piece (sym last))

@@ -5,7 +5,7 @@ use mathlib.Core.Bool.{Bool, true, false, not, cond}
 use mathlib.Core.Path.{◌≡◌, refl, ap, subst, ◌∙◌}
 use native.Mathlib.Omega.{arith}
 use lib.Dec.{T, eqb, leb, ltb}
-use borrow.Author.Tests.{eq_eqb, eqb_true, leb-false, ltb-false, not-false}
+use borrow.Author.Tests.{eq-eqb, eqb-true, leb-false, ltb-false, not-false}
 use Rattle.machine.specs.Image.{is_16k, image_length}
 use Rattle.machine.specs.Refusal.{given, if_done, memory_check, output_check, mode_check, counter_check, line_check, column_check, kind_check, profile_check, controller_check, trace_check}
 use Rattle.machine.specs.Sizes.{columns, lines, last_mode, last_count, last_kind, last_profile, longest_trace}
@@ -29,7 +29,7 @@ pub record Passed (Fact : Type 0) (later : ℕ) : Type 0 where
 
 -- a check that is in a nest whose status is 0 does not apply
 unapplied : (applies : Bool) (number later : ℕ) → T (not (eqb number 0)) → cond applies number later ≡ 0 → Passed (applies ≡ false) later
-unapplied true number later t e = absurd (subst (λ (b : Bool). T (not b)) (eq_eqb number 0 e) t)
+unapplied true number later t e = absurd (subst (λ (b : Bool). T (not b)) (eq-eqb number 0 e) t)
 unapplied false number later t e = record { holds = refl; rest = e }
 
 -- the three forms of a test: a length that is wanted, a largest number, a first number that is too large
@@ -37,7 +37,7 @@ module _ (number later : ℕ) (numbered : T (not (eqb number 0))) where
   equal : (wanted size : ℕ) → cond (not (eqb size wanted)) number later ≡ 0 → Passed (size ≡ wanted) later
   equal wanted size e =
       let p = unapplied (not (eqb size wanted)) number later numbered e in
-      record { holds = eqb_true size wanted (not-false _ p.holds); rest = p.rest }
+      record { holds = eqb-true size wanted (not-false _ p.holds); rest = p.rest }
 
   at_most : (last n : ℕ) → cond (ltb last n) number later ≡ 0 → Passed (n ≤ last) later
   at_most last n e =
@@ -83,6 +83,6 @@ module _ (later : ℕ) where
   controller_passed profile kind e =
       let p = unapplied (controller_check profile kind).applies 13 later tt e in
       record {
-        holds = λ small. eqb_true kind 0 (not-false _ (simp small at p.holds));
+        holds = λ small. eqb-true kind 0 (not-false _ (simp small at p.holds));
         rest = p.rest;
       }

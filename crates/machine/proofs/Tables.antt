@@ -8,7 +8,7 @@ use native.Mathlib.Omega.{arith}
 use lib.Dec.{eqb}
 use lib.ListN.{length, get_or}
 use lib.Seq.{ext_get_or}
-use borrow.Author.Tests.{eqb_true}
+use borrow.Author.Tests.{eqb-true}
 use Rattle.machine.specs.Lists.{gather}
 use Rattle.machine.proofs.Lists.{singles_length, singles_at}
 
@@ -22,7 +22,7 @@ first_follows : (rule : ℕ → ℕ) (n : ℕ) (table : List ℕ) → follows ru
     → (n ≡ rule zero) × (follows (λ (place : ℕ). rule (suc place)) table ≡ true)
 first_follows rule n table test =
     let both = (and-eq-true_iff (eqb n (rule zero)) (follows (λ (place : ℕ). rule (suc place)) table)).0 test in
-    (eqb_true n (rule zero) both.0, both.1)
+    (eqb-true n (rule zero) both.0, both.1)
 
 -- so it says of each place which number it holds
 number_at : (rule : ℕ → ℕ) (table : List ℕ) → follows rule table ≡ true → (place : ℕ) → place < length table

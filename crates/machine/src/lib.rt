@@ -1,4 +1,6 @@
 // What every crate shares: the profiles and their memory images, the sizes of a frame, the refusals' numbers and limits.
+#![tactic(auto)]
+
 mod choose;
 mod image;
 mod refusal;

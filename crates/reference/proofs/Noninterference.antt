@@ -12,7 +12,7 @@ use Rattle.video.specs.Cell.{Cell, pixels, used}
 use Rattle.video.specs.Frame.{frame_cells}
 use Rattle.video.specs.Answer.{painted, frame_refusal, frame_answer, frame_contents, mapped_frame_refusal, mapped_frame_answer, mapped_frame_contents, mapped_frame_map}
 use Rattle.video.proofs.Accepted.{frame_accepted, mapped_accepted}
-use Rattle.video.proofs.Answers.{painting_done, mapping-done}
+use Rattle.video.proofs.Answers.{painting_done, mapping_done}
 use Rattle.video.specs.declared.answer.Painted.{Painted}
 use Rattle.video.specs.declared.state.State.{State}
 use Rattle.video_laws.proofs.Frames.{frame_by_used_bytes}
@@ -40,7 +40,7 @@ module _ (image : Image) (state : State) (frame : List ℕ) (sized : IsImage sta
       let number = mapped_frame_refusal image state frame map in
       let accepted = mapped_accepted image state frame sized within lent map size in
       let left = painting_done number state (after_frame state) (frame_cells image state) frame accepted in
-      (left.0, left.1, mapping-done number (frame_cells image state) map accepted)
+      (left.0, left.1, mapping_done number (frame_cells image state) map accepted)
 
 -- paintings of the same cells are alike
 alike : (after : State) (cells : List Cell) (first second : Painted) (lent other : List ℕ)

@@ -10,7 +10,7 @@ use native.Mathlib.Numerals.{add-one}
 use native.Mathlib.Omega.{arith}
 use lib.Dec.{eqb, ltb}
 use lib.IntN.{ℤ, nat_abs, sub_ℕ, ℤ_discrete}
-use borrow.Author.Tests.{eqb_true, eqb-false, ltb-true, ltb-false}
+use borrow.Author.Tests.{eqb-true, eqb-false, ltb-true, ltb-false}
 use Rattle.slips.specs.Internal.{is_better}
 use Rattle.slips.specs.Slip.{farthest_slip, IsSlip, Behind, disagreements, BestOf, Best}
 use Rattle.slips.proofs.Slips.{first_slip, place, last_place, place_one, place_most, place_at, slip_at, later_positive, positive_one}
@@ -88,8 +88,8 @@ module _ (reference grabbed : List ℕ) where
       where
         go : (same : Bool) → eqb (count slip) (count best) ≡ same → (t : Bool)
             → cond same (ltb (nat_abs slip) (nat_abs best)) (ltb (count slip) (count best)) ≡ t → Told t
-        go true e true nearer = inr (eqb_true _ _ e, ltb-true _ _ nearer)
-        go true e false farther = inr (eqb_true _ _ e, ltb-false _ _ farther)
+        go true e true nearer = inr (eqb-true _ _ e, ltb-true _ _ nearer)
+        go true e false farther = inr (eqb-true _ _ e, ltb-false _ _ farther)
         go false e true fewer = inl (ltb-true _ _ fewer)
         go false e false more = inl (omega (arith, ltb-false (count slip) (count best) more, eqb-false (count slip) (count best) e))
 

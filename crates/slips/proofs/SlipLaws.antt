@@ -9,7 +9,7 @@ use native.Mathlib.Omega.{arith}
 use lib.Dec.{eqb, leb}
 use lib.IntN.{ℤ, pos, negsuc, nat_abs, sub_ℕ, ◌+ℤ◌}
 use lib.ListN.{length, get_or}
-use borrow.Author.Tests.{leb-false, le-leb, lt-leb, eq_eqb}
+use borrow.Author.Tests.{leb-false, le-leb, lt-leb, eq-eqb}
 use Rattle.machine.specs.Sizes.{line_length}
 use Rattle.machine.specs.Numbers.{passing_from}
 use Rattle.slips.specs.Slip.{IsSlip, is_outside, disagrees, disagreements, Best, slipped, unsearched, slip_status, IsSlipAnswer}
@@ -81,7 +81,7 @@ module _ (reference grabbed : List ℕ) (slip : ℤ) (moved : Moved reference gr
     where
       go : (t : Bool) → leb line_length at ≡ t → (t || not (eqb (get_or reference x 0) (get_or grabbed at 0))) ≡ t
       go true outside = refl
-      go false inside = ap not (eq_eqb (get_or reference x 0) (get_or grabbed at 0) (sym (moved x at h (leb-false line_length at inside) e)))
+      go false inside = ap not (eq-eqb (get_or reference x 0) (get_or grabbed at 0) (sym (moved x at h (leb-false line_length at inside) e)))
 
   moved_count : IsSlip slip → disagreements reference grabbed slip ≡ nat_abs slip
   unfolding disagreements

@@ -1,5 +1,7 @@
 // The test card: writes one memory image of 65,536 bytes to standard output. Painted in text mode
 // at 50 Hz it shows each rule of the video half in a place of its own, with a caption.
+#![tactic(auto)]
+
 mod attributes;
 mod glyphs;
 mod hires;

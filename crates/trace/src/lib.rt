@@ -1,4 +1,6 @@
 // A list of bus accesses in one call: the records are answered in order, each in its place.
+#![tactic(auto)]
+
 mod cycle;
 mod list;
 

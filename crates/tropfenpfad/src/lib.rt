@@ -1,4 +1,6 @@
 // Every entry point under its C name. Each has the contract of the function that it calls.
+#![tactic(auto)]
+
 ghost use Rattle.std.specs.Prelude.{◌≡◌};
 ghost use Rattle.video.specs.State.{fresh_state};
 ghost use Rattle.video.specs.Answer.{address_answer, line_answer, line_contents, frame_answer, frame_contents, mapped_line_answer, mapped_line_contents, mapped_line_map, mapped_frame_answer, mapped_frame_contents, mapped_frame_map};

@@ -9,7 +9,7 @@ use native.Mathlib.Omega.{arith}
 use lib.Dec.{eqb, ltb}
 use lib.ListN.{length, get_or, set, take, drop, length-set, length-drop}
 use lib.Seq.{ext_get_or, get_or-set_same, get_or-set_other, length-take-le, get_or-take, get_or-drop}
-use borrow.Author.Tests.{eqb_true, eqb-false, ne_eqb, ltb-true, ltb-false}
+use borrow.Author.Tests.{eqb-true, eqb-false, ne_eqb, ltb-true, ltb-false}
 use borrow.Rule.Slice.PartMut.{put_mid, same_len_mid}
 use Rattle.machine.specs.Bits.{bit}
 use Rattle.machine.specs.Lists.{Each, is_in}
@@ -109,7 +109,7 @@ module _ (lent : List ℕ) (bytes : Bytes lent) (address : ℕ) where
   with_bit other size apart here = as_marked lent (address ∷ []) other size (λ k h. go k h (eqb k place) refl)
     where
       go : (k : ℕ) → k < length lent → (same : Bool) → eqb k place ≡ same → get_or other k 0 ≡ marked_byte (address ∷ []) k (get_or lent k 0)
-      go k h true e = let is = eqb_true k place e in rw is (here (omega arith) ∙ sym there)
+      go k h true e = let is = eqb-true k place e in rw is (here (omega arith) ∙ sym there)
       go k h false e = apart k (eqb-false k place e) ∙ elsewhere k (eqb-false k place e)
 
   -- the weight is added where the bit is not set

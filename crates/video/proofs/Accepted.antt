@@ -4,7 +4,7 @@ use Prim.Native.Nat.{ℕ, ◌≤◌, ◌<◌}
 use mathlib.Core.List.{List, ◌∷◌, ◌++◌}
 use mathlib.Core.Path.{◌≡◌}
 use lib.ListN.{length}
-use borrow.Author.Tests.{eq_eqb, le-ltb}
+use borrow.Author.Tests.{eq-eqb, le-ltb}
 use Rattle.machine.specs.Image.{Image, IsImage, image_length}
 use Rattle.machine.specs.Refusal.{refusal_before}
 use Rattle.machine.specs.Sizes.{columns, lines, frame_length, last_mode, last_count, last_profile}
@@ -75,8 +75,8 @@ module _ (image : Image) (state : State) (frame : List ℕ) (sized : IsImage sta
   frame_accepted =
       simp (
         le-ltb last_profile state.profile within.profile,
-        eq_eqb (length image) (image_length state.profile) sized,
-        eq_eqb (length frame) frame_length lent,
+        eq-eqb (length image) (image_length state.profile) sized,
+        eq-eqb (length frame) frame_length lent,
         le-ltb last_mode state.mode within.mode,
         le-ltb last_count state.counter within.counter,
       )
@@ -85,9 +85,9 @@ module _ (image : Image) (state : State) (frame : List ℕ) (sized : IsImage sta
   mapped_accepted map mapped =
       simp (
         le-ltb last_profile state.profile within.profile,
-        eq_eqb (length image) (image_length state.profile) sized,
-        eq_eqb (length frame) frame_length lent,
-        eq_eqb (length map) map_length mapped,
+        eq-eqb (length image) (image_length state.profile) sized,
+        eq-eqb (length frame) frame_length lent,
+        eq-eqb (length map) map_length mapped,
         le-ltb last_mode state.mode within.mode,
         le-ltb last_count state.counter within.counter,
       )

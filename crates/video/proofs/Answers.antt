@@ -10,9 +10,9 @@ use Rattle.video.specs.Cell.{Cell, pixels, used}
 use Rattle.video.specs.declared.state.State.{State}
 
 module _ (number : ℕ) (state after : State) (cells : List Cell) (lent : List ℕ) where
-  pub painting-refused : (status : ℕ) → status ≡ number → (status ≡ 0 → ⊥)
+  pub painting_refused : (status : ℕ) → status ≡ number → (status ≡ 0 → ⊥)
       → (unpainted status state ≡ painted_by number state after cells) × (lent ≡ filled_by number cells lent)
-  painting-refused status is bad =
+  painting_refused status is bad =
       let not_done : number ≡ 0 → ⊥ = λ e. bad (is ∙ e) in
       (ap (λ (n : ℕ). unpainted n state) is ∙ sym (refused _ _ _ not_done), sym (refused _ _ _ not_done))
 
@@ -22,8 +22,8 @@ module _ (number : ℕ) (state after : State) (cells : List Cell) (lent : List �
 
 -- and a map
 module _ (number : ℕ) (cells : List Cell) (map : List ℕ) where
-  pub mapping-refused : (status : ℕ) → status ≡ number → (status ≡ 0 → ⊥) → map ≡ mapped_by number cells map
-  mapping-refused status is bad = sym (refused _ _ _ (λ e. bad (is ∙ e)))
+  pub mapping_refused : (status : ℕ) → status ≡ number → (status ≡ 0 → ⊥) → map ≡ mapped_by number cells map
+  mapping_refused status is bad = sym (refused _ _ _ (λ e. bad (is ∙ e)))
 
-  pub mapping-done : number ≡ 0 → marked map (used cells) ≡ mapped_by number cells map
-  mapping-done ok = sym (done _ _ _ ok)
+  pub mapping_done : number ≡ 0 → marked map (used cells) ≡ mapped_by number cells map
+  mapping_done ok = sym (done _ _ _ ok)

@@ -1,4 +1,6 @@
 // The video half of the ULA: from the memory image and the state that the last frame left, the frame and the next state.
+#![tactic(auto)]
+
 mod address;
 mod answer;
 mod bits;

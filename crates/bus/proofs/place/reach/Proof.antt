@@ -1,14 +1,14 @@
 -- `bus::place::reach` meets its contract: each arm of the match is a kind.
 -- Assumes nothing.
 use native.Mathlib.Omega.{arith}
-use borrow.Author.Tests.{eq_eqb, ne_eqb}
+use borrow.Author.Tests.{eq-eqb, ne_eqb}
 use Rattle.bus.specs.Place.{place}
 use Rattle.bus.proofs.place.reach.Statement.{statement}
 use Rattle.bus.proofs.place.reach.Tie as tie
 
 microdisc-returns : tie.Need-returns
 unfolding place
-microdisc-returns c = simp (c.reach-with-microdisc.ensures, eq_eqb _ _ c.before.match.keys1)
+microdisc-returns c = simp (c.reach-with-microdisc.ensures, eq-eqb _ _ c.before.match.keys1)
 
 jasmin-returns : tie.Need-returns-2
 unfolding place
@@ -16,7 +16,7 @@ jasmin-returns c =
     simp (
       c.reach-with-jasmin.ensures,
       ne_eqb c.before.before.args.latches.kind 1 (omega arith),
-      eq_eqb _ _ c.before.match.keys2,
+      eq-eqb _ _ c.before.match.keys2,
     )
 
 without-returns : tie.Need-returns-3

@@ -4,7 +4,7 @@ use mathlib.Core.Bool.{or-true}
 use mathlib.Core.Logic.{⊎_elim}
 use native.Mathlib.Omega.{arith}
 use borrow.Author.Rules.{rules}
-use borrow.Author.Tests.{le-leb, lt-leb, eq_eqb, ne_eqb}
+use borrow.Author.Tests.{le-leb, lt-leb, eq-eqb, ne_eqb}
 use Rattle.bus.proofs.Rows.{Within, Beyond, within, beyond, in_upper, in_page_three, in_ram}
 use Rattle.bus.proofs.place.reach_with_microdisc.Statement.{statement}
 use Rattle.bus.proofs.place.reach_with_microdisc.Tie as tie
@@ -51,7 +51,7 @@ controller-returns c =
     let a = c.before.before.args.address in
     let among : Within 0x310 0x31F a = ⊎_elim (λ w. omega arith) (λ w. omega arith) c.before.match.branch in
     simp (c.to-controller.ensures, in_page_three a (omega arith), within 0x310 0x31F a among)
-    (⊎_elim (λ w. simp (eq_eqb a 0x318 (omega arith), or-true)) (λ w. simp (le-leb a 0x314 (omega arith))) c.before.match.branch)
+    (⊎_elim (λ w. simp (eq-eqb a 0x318 (omega arith), or-true)) (λ w. simp (le-leb a 0x314 (omega arith))) c.before.match.branch)
 
 pub reach-with-microdisc-spec : {M : Type 1} → statement M
 reach-with-microdisc-spec =

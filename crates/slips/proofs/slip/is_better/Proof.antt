@@ -5,7 +5,7 @@ use lib.IntN.{nat_abs}
 use mir.Syntax.{w64}
 use mir.ValLaws.{to_z-of_z}
 use borrow.Author.Rules.{rules}
-use borrow.Author.Tests.{eq_eqb, ne_eqb}
+use borrow.Author.Tests.{eq-eqb, ne_eqb}
 use Rattle.slips.proofs.slip.is_better.Statement.{statement}
 use Rattle.slips.proofs.slip.is_better.Tie as tie
 
@@ -15,7 +15,7 @@ returns c =
     let a = s.args in
     let one : c.before.distance.result ≡ nat_abs a.slip = c.before.distance.ensures ∙ ap nat_abs (to_z-of_z w64 a.slip s.ranges.slip) in
     let other : c.distance2.result ≡ nat_abs a.best = c.distance2.ensures ∙ ap nat_abs (to_z-of_z w64 a.best s.ranges.best) in
-    rw (one, other, eq_eqb a.count a.fewest c.before.before.if1.true)
+    rw (one, other, eq-eqb a.count a.fewest c.before.before.if1.true)
 
 returns-2 : tie.Need-returns-2
 returns-2 c =

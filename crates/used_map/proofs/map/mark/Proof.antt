@@ -7,7 +7,7 @@ use native.Mathlib.Omega.{arith}
 use lib.ListN.{get_or}
 use lib.Pow.{pow_pos}
 use borrow.Author.Rules.{rules}
-use borrow.Author.Tests.{eq_eqb, ne_eqb}
+use borrow.Author.Tests.{eq-eqb, ne_eqb}
 use Rattle.used_map.specs.Map.{byte_bits, is_marked}
 use Rattle.used_map.proofs.Marks.{Bytes, marked_added, added_small, marked_already, marked_outside}
 use Rattle.used_map.proofs.map.mark.Statement.{statement}
@@ -47,7 +47,7 @@ returns-2 c =
     let k = c.before.before.before.before in
     let a = k.before.args in
     let is : tested k.before ≡ 0 → ⊥ = rw c.before.bit-weight.ensures at c.if2.false in
-    marked_already a.map.now (bytes k) a.address (eq_eqb (tested k.before) 1 (omega (arith, is)))
+    marked_already a.map.now (bytes k) a.address (eq-eqb (tested k.before) 1 (omega (arith, is)))
 
 returns-3 : tie.Need-returns-3
 returns-3 c = let a = c.before.before.args in marked_outside a.map.now (bytes c.before) a.address c.if1.false

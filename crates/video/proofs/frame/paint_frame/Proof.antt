@@ -13,7 +13,7 @@ use Rattle.video.specs.Cell.{Cell}
 use Rattle.video.specs.Frame.{frame_cells}
 use Rattle.video.specs.State.{after_frame}
 use Rattle.video.proofs.Accepted.{Paintable, accepted_painting}
-use Rattle.video.proofs.Answers.{painting-refused, painting_done}
+use Rattle.video.proofs.Answers.{painting_refused, painting_done}
 use Rattle.video.proofs.Block.{block_sized, frame_of_block}
 use Rattle.video.proofs.frame.paint_frame.Statement.{statement}
 use Rattle.video.proofs.frame.paint_frame.Tie as tie
@@ -41,7 +41,7 @@ returns c =
     let k = c.before.before in
     let start = entry k in
     let a = start.args in
-    let left = painting-refused (number start) a.state (after_frame a.state) (cells start) a.frame.now _ (status k) c.before.if1.true in
+    let left = painting_refused (number start) a.state (after_frame a.state) (cells start) a.frame.now _ (status k) c.before.if1.true in
     (c.refused.ensures ∙ left.0, left.1)
 
 module _ (e : tie.Else1) where

@@ -16,7 +16,7 @@ use Rattle.video.specs.Cell.{Cell}
 use Rattle.video.specs.Frame.{frame_cells}
 use Rattle.video.specs.State.{after_frame}
 use Rattle.video.proofs.Accepted.{Paintable, accepted_mapping}
-use Rattle.video.proofs.Answers.{painting-refused, painting_done, mapping-refused, mapping-done}
+use Rattle.video.proofs.Answers.{painting_refused, painting_done, mapping_refused, mapping_done}
 use Rattle.video.proofs.Block.{block_sized, frame_of_block, frame_marks}
 use Rattle.video.proofs.frame.paint_frame_mapped.Statement.{statement}
 use Rattle.video.proofs.frame.paint_frame_mapped.Tie as tie
@@ -46,8 +46,8 @@ returns c =
     let start = entry k in
     let a = start.args in
     let refused = c.before.if1.true in
-    let left = painting-refused (number start) a.state (after_frame a.state) (cells start) a.frame.now _ (status k) refused in
-    (c.refused.ensures ∙ left.0, (left.1, mapping-refused (number start) (cells start) a.map.now _ (status k) refused))
+    let left = painting_refused (number start) a.state (after_frame a.state) (cells start) a.frame.now _ (status k) refused in
+    (c.refused.ensures ∙ left.0, (left.1, mapping_refused (number start) (cells start) a.map.now _ (status k) refused))
 
 module _ (e : tie.Else1) where
   abbrev begun : tie.Start
@@ -94,7 +94,7 @@ returns-2 c =
       f.fill_frame.ensures.0 ∙ rw k.video-block.ensures (same.0 ∙ left.0),
       (
         f.fill_frame.ensures.1.0 ∙ rw k.video-block.ensures (same.1 ∙ left.1),
-        marks ∙ mapping-done (number start) (cells start) a.map.now (accepted (past k)),
+        marks ∙ mapping_done (number start) (cells start) a.map.now (accepted (past k)),
       ),
     )
 

@@ -12,7 +12,7 @@ use Rattle.machine.proofs.Refusals.{line_passed}
 use Rattle.video.specs.Answer.{line_checks, state_checks, line_refusal, cells_of_line, line_answer, line_contents}
 use Rattle.video.specs.Cell.{Cell}
 use Rattle.video.proofs.Accepted.{Paintable, accepted_painting}
-use Rattle.video.proofs.Answers.{painting-refused, painting_done}
+use Rattle.video.proofs.Answers.{painting_refused, painting_done}
 use Rattle.video.proofs.Block.{block_sized, line_of_block}
 use Rattle.video.proofs.line.paint_line.Statement.{statement}
 use Rattle.video.proofs.line.paint_line.Tie as tie
@@ -41,7 +41,7 @@ returns c =
     let k = c.before.before in
     let start = entry k in
     let a = start.args in
-    let left = painting-refused (number start) a.state a.state (cells start) a.output.now _ (status k) c.before.if1.true in
+    let left = painting_refused (number start) a.state a.state (cells start) a.output.now _ (status k) c.before.if1.true in
     (c.refused.ensures ∙ left.0, left.1)
 
 module _ (e : tie.Else1) where

@@ -15,7 +15,7 @@ use Rattle.used_map.proofs.Marks.{Bytes}
 use Rattle.video.specs.Answer.{state_checks, map_check, line_checks, cells_of_line, mapped_line_refusal, mapped_line_answer, mapped_line_contents, mapped_line_map}
 use Rattle.video.specs.Cell.{Cell}
 use Rattle.video.proofs.Accepted.{Paintable, accepted_mapping}
-use Rattle.video.proofs.Answers.{painting-refused, painting_done, mapping-refused, mapping-done}
+use Rattle.video.proofs.Answers.{painting_refused, painting_done, mapping_refused, mapping_done}
 use Rattle.video.proofs.Block.{block_sized, line_of_block, line_marks}
 use Rattle.video.proofs.line.paint_line_mapped.Statement.{statement}
 use Rattle.video.proofs.line.paint_line_mapped.Tie as tie
@@ -47,8 +47,8 @@ returns c =
     let start = entry k in
     let a = start.args in
     let refused = c.before.if1.true in
-    let left = painting-refused (number start) a.state a.state (cells start) a.output.now _ (status k) refused in
-    (c.refused.ensures ∙ left.0, (left.1, mapping-refused (number start) (cells start) a.map.now _ (status k) refused))
+    let left = painting_refused (number start) a.state a.state (cells start) a.output.now _ (status k) refused in
+    (c.refused.ensures ∙ left.0, (left.1, mapping_refused (number start) (cells start) a.map.now _ (status k) refused))
 
 module _ (e : tie.Else1) where
   abbrev begun : tie.Start
@@ -99,7 +99,7 @@ returns-2 c =
       f.fill-single.ensures.0 ∙ rw k.video-block.ensures (same.0 ∙ left.0),
       (
         f.fill-single.ensures.1.0 ∙ rw k.video-block.ensures (same.1 ∙ left.1),
-        marks ∙ mapping-done (number start) (cells start) a.map.now (accepted (past k)),
+        marks ∙ mapping_done (number start) (cells start) a.map.now (accepted (past k)),
       ),
     )
 

@@ -4,7 +4,7 @@ use Prim.Native.Nat.{ℕ}
 use mathlib.Core.List.{List, [], ◌∷◌}
 use mathlib.Core.Path.{ap, ◌∙◌}
 use borrow.Author.Rules.{rules}
-use borrow.Author.Tests.{eq_eqb, ne_eqb}
+use borrow.Author.Tests.{eq-eqb, ne_eqb}
 use Rattle.used_map.specs.Map.{marked}
 use Rattle.used_map.proofs.Marks.{marks_join}
 use Rattle.video.proofs.map.mark_cell.Statement.{statement}
@@ -15,7 +15,7 @@ returns c =
     let test = c.before.before.before.before in
     let first = test.before.before.before.before in
     let a = first.before.before.before.args in
-    simp (eq_eqb a.cell.character 1 test.if1.true)
+    simp (eq-eqb a.cell.character 1 test.if1.true)
     (c.before.before.mark2.ensures
     ∙ ap (λ (l : List ℕ). marked l (a.cell.pattern ∷ [])) first.mark.ensures
     ∙ marks_join a.map.now (a.cell.screen ∷ []) (a.cell.pattern ∷ []))
