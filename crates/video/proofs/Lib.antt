@@ -6,6 +6,7 @@ pub mod Block
 pub mod Cells
 pub mod Choice
 pub mod Columns
+pub mod FillFrame
 pub mod Folded
 pub mod Frames
 pub mod Lines

@@ -84,7 +84,7 @@ fn is_hires(mode: u64) -> bool
 }
 
 // A line, and where in the block its screen bytes begin in text and in hires.
-#[derive(Drop)]
+#[derive(Clone, Copy)]
 pub(crate) struct Scanline {
     pub number: usize,
     pub text: usize,

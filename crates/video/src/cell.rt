@@ -12,7 +12,7 @@ use machine::choose_address;
 
 // The registers that a cell leaves, its colours, and what it used: where its screen byte is, how many character bytes, 0 or 1, and
 // where its pattern is, at the character byte or, where that is none, at the screen byte.
-#[derive(Drop)]
+#[derive(Clone, Copy)]
 pub(crate) struct PaintedCell {
     pub registers: Registers,
     pub colours: [u8; 6],

@@ -19,7 +19,7 @@ const FLASH: u64 = 4;
 const HIDDEN_FROM: u8 = 16;
 
 // Words, and no bytes: four bytes would be packed into one word and unpacked in each cell.
-#[derive(Drop)]
+#[derive(Clone, Copy)]
 pub(crate) struct Registers {
     pub ink: u64,
     pub style: u64,

@@ -8,7 +8,7 @@ use machine::{LAST_COUNT, PROFILE_48K};
 const FRESH_MODE: u8 = 2;
 
 #[repr(C)]
-#[derive(Drop)]
+#[derive(Clone, Copy)]
 pub struct State {
     // 0 to 7: bit 1 is 50 Hz, bit 2 is hires.
     pub mode: u8,
