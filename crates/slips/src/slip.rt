@@ -72,8 +72,8 @@ fn best_slip(reference: &[u8], grabbed: &[u8]) -> Slip
 
 // Fewer disagreements, or as many and nearer zero.
 fn is_better(slip: isize, count: u16, best: isize, fewest: u16) -> bool
-    requires slip { IsSlip slip }
-    requires slip_2 { IsSlip best }
+    requires is_slip { IsSlip slip }
+    requires best_is_slip { IsSlip best }
     ensures { result ≡ is_better slip count best fewest }
 {
     if count == fewest {
@@ -95,7 +95,7 @@ fn distance(slip: isize) -> usize
 
 fn disagreements(reference: &[u8], grabbed: &[u8], slip: isize) -> u16
     requires are_lines { AreLines reference.now grabbed.now }
-    requires slip { IsSlip slip }
+    requires is_slip { IsSlip slip }
     ensures { result ≡ disagreements reference.now grabbed.now slip }
 {
     let mut count: u16 = 0;
@@ -110,8 +110,8 @@ fn disagreements(reference: &[u8], grabbed: &[u8], slip: isize) -> u16
 // Whether the grabbed line has no pixel x + slip, or another byte there than the reference at x.
 fn disagrees(reference: &[u8], grabbed: &[u8], x: usize, slip: isize) -> bool
     requires are_lines { AreLines reference.now grabbed.now }
-    requires x_lt_line_length { x < line_length }
-    requires slip { IsSlip slip }
+    requires on_line { x < line_length }
+    requires is_slip { IsSlip slip }
     ensures { result ≡ disagrees reference.now grabbed.now slip x }
 {
     let at = x as isize + slip;
