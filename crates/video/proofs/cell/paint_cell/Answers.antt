@@ -1,5 +1,5 @@
 -- `video::cell::paint_cell` meets its contract: an attribute is pattern 0 in its own colours, a picture leaves the registers alone.
-use Rattle.std.proofs.Common.{◌≡◌, ℕ, get_or, sym, ap, ◌∙◌, arith}
+use Rattle.std.proofs.Common.{◌≡◌, ℕ, get_or, sym, ap, ◌∙◌}
 use Rattle.machine.specs.Image.{Image, byte_at}
 use Rattle.video.specs.Address.{screen_address}
 use Rattle.video.specs.Cell.{screen_byte}

@@ -2,7 +2,7 @@
 use Rattle.std.proofs.Common.{◌≡◌, ℕ, ◌+◌, ◌*◌, ◌<◌, List, [], ◌∷◌, ◌++◌, map, length, take, get_or, refl, sym, ap, ◌∙◌, append_assoc, arith}
 use mathlib.Core.List.{append-nil, flatten}
 use native.Mathlib.Numerals.{add-one}
-use lib.ListN.{length-set, length-map}
+use lib.ListN.{length-set}
 use lib.Seq.{take-suc, take-suc-set, take_all}
 use Rattle.machine.specs.Lists.{Each}
 use Rattle.machine.specs.Sizes.{cell_length}

@@ -29,9 +29,10 @@ answer-requires-clause-screen_bound c =
     let ram : Ram = block_ram c.args.block.now in
     let state = c.args.state in
     let cells = line_cells ram state.counter c.args.line state.mode in
-    rw (painted_is ram state.counter c.args.line state.mode _ _ _ _ c.fill_line-painted.ensures.value c.new-scanline.ensures c.at_line_start-before.ensures c.wide.ensures)
-    (omega (arith, line_uses_screen_bytes ram state.counter c.args.line state.mode),
-    omega (arith, characters_most cells, cells_length ram state.counter c.args.line state.mode columns))
+    rw (painted_is ram state.counter c.args.line state.mode _ _ _ _ c.fill_line-painted.ensures.value c.new-scanline.ensures c.at_line_start-before.ensures c.wide.ensures) (
+      omega (arith, line_uses_screen_bytes ram state.counter c.args.line state.mode),
+      omega (arith, characters_most cells, cells_length ram state.counter c.args.line state.mode columns),
+    )
 
 pub returns-clause-value : goal.returns-clause-value
 returns-clause-value c =
