@@ -16,7 +16,7 @@ const JASMIN_FIRST_LATCH: u16 = 0x03FA;
 const JASMIN_SECOND_LATCH: u16 = 0x03FB;
 
 #[repr(C)]
-#[derive(Drop)]
+#[derive(Clone, Copy)]
 pub struct Latches {
     // The controller: 0 none, 1 Microdisc, 2 Jasmin.
     pub kind: u8,

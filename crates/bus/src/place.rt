@@ -49,7 +49,7 @@ pub struct Decoded {
     pub number: u16,
 }
 
-#[derive(Drop)]
+#[derive(Clone, Copy)]
 pub(crate) struct Place {
     pub target: u8,
     pub number: u16,

@@ -6,7 +6,7 @@ ghost use Rattle.trace.specs.Internal.{stepped, step_contents};
 use bus::{Latches, read, write};
 
 #[repr(C)]
-#[derive(Drop)]
+#[derive(Clone, Copy)]
 pub struct Cycle {
     pub address: u16,
     // 0 is a read, any other value a write.
