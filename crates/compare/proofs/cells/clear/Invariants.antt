@@ -1,6 +1,6 @@
 -- The places passed hold no cell.
 -- Assumes nothing.
-use Rattle.std.proofs.Common.{◌-◌, ◌≡◌, ◌≤◌, ◌++◌, drop, length, replicate}
+use Rattle.std.proofs.Common.{◌-◌, ◌≡◌, ◌≤◌, ◌++◌, drop, replicate}
 use Rattle.compare.specs.Answer.{list_length, no_cell}
 use Rattle.compare.proofs.cells.clear.Given as goal
 

@@ -1,8 +1,8 @@
 -- The status is the refusal of its list, and decides between refusal and report.
 -- Assumes nothing.
-use Rattle.std.proofs.Common.{◌≡◌, sym, ap, ◌∙◌}
+use Rattle.std.proofs.Common.{sym, ap, ◌∙◌}
 use Rattle.machine.proofs.Refusals.{done, refused}
-use Rattle.compare.specs.Answer.{status_of, uncompared, compare_answer, counts_left, cells_left}
+use Rattle.compare.specs.Answer.{uncompared, compare_answer, counts_left, cells_left}
 use Rattle.compare.specs.Internal.{reported}
 use Rattle.compare.proofs.Whole.{clear_is, counts_are, listed_are, small, report_is}
 use Rattle.compare.proofs.frames.compare.Goals as goal

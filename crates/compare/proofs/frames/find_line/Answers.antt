@@ -27,4 +27,4 @@ returns-clause-value c =
     let counted = c.requires.pixels_value in
     let some : 0 < length (line_places a.first.now a.second.now a.line) = omega (arith, counted, c.if-pixels-eq0.false) in
     rw (c.first_x.ensures, c.last_x.ensures, c.lower.ensures, c.higher.ensures, counted, c.list_cells.ensures.value)
-        (line_adds a.first.now a.second.now a.line some a.before)
+    (line_adds a.first.now a.second.now a.line some a.before)

@@ -1,6 +1,6 @@
 -- The first pixel that differs is one of the cell's places, and where none does the cell has none.
 -- Assumes nothing.
-use Rattle.std.proofs.Common.{◌≡◌, ◌+◌, ℕ, List, length, ltb, sym, ap, arith}
+use Rattle.std.proofs.Common.{◌+◌, ℕ, List, length, ltb, sym, ap, arith}
 use borrow.Author.Tests.{lt-ltb}
 use Rattle.machine.specs.Numbers.{passing_from}
 use Rattle.machine.specs.Sizes.{cell_length}

@@ -1,6 +1,6 @@
 -- A pixel more adds 1 to the count where it differs, and the places of a line are 240 at most.
 -- Assumes nothing.
-use Rattle.std.proofs.Common.{◌≡◌, ◌+◌, ℕ, length, sym, ap, ◌∙◌, arith}
+use Rattle.std.proofs.Common.{◌+◌, ℕ, length, sym, ap, ◌∙◌, arith}
 use mir.Val.{bool_byte}
 use Rattle.machine.proofs.Numbers.{from_none, from_count, from_most}
 use Rattle.compare.specs.Places.{differs}
