@@ -5,3 +5,5 @@ pub mod Listed
 pub mod Whole
 pub mod Accepted
 pub mod Laws
+pub mod LinesFound
+pub mod CellsListed

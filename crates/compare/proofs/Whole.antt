@@ -14,7 +14,7 @@ use Rattle.machine.proofs.Lists.{gather_same}
 use Rattle.compare.specs.Answer.{list_length, no_cell, report, line_counts, listed}
 use Rattle.compare.specs.Internal.{line_places, cell_places, has_place, found_with, found_in, counts_in, listed_in, Small, reported}
 use Rattle.machine.specs.Numbers.{passing, passing_from, least, greatest}
-use Rattle.compare.specs.Places.{x_of, line_of, cell_of, differs, differences, on_line_lem, in_cell_lem, cell_differs, differing_cells}
+use Rattle.compare.specs.Places.{x_of, line_of, cell_of, differs, differences, on_line, in_cell, cell_differs, differing_cells}
 use Rattle.machine.proofs.Numbers.{one_piece, start_pieces, from_none, from_each, from_most, from_same}
 use Rattle.compare.proofs.Picks.{AtLeast, rising, falling, fold_first, fold_bound, fold_picked}
 
@@ -41,10 +41,10 @@ module _ (first second : List ℕ) where
       ∙ one_piece number (λ (k : ℕ). passing_from (differs first second) (size * k) size) count
       (λ i less. from_each (differs first second) (λ (place : ℕ). number place ≡ i) (size * i) size (λ k h' e. numbered i k h')) n h
 
-  in_cell_lem : (cell : ℕ) → cell < columns * lines → in_cell_lem places cell ≡ cell_places first second cell
+  in_cell_lem : (cell : ℕ) → cell < columns * lines → in_cell places cell ≡ cell_places first second cell
   in_cell_lem = one_number cell_of cell_length (columns * lines) refl (λ i k h. omega arith)
 
-  on_line_lem : (line : ℕ) → line < lines → on_line_lem places line ≡ line_places first second line
+  on_line_lem : (line : ℕ) → line < lines → on_line places line ≡ line_places first second line
   on_line_lem = one_number line_of line_length lines refl (λ i k h. omega arith)
 
   cells_are : passing_from (has_place first second) 0 (columns * lines) ≡ differing_cells places
@@ -55,7 +55,7 @@ module _ (first second : List ℕ) where
   pub counts_are : counts_in first second lines ≡ line_counts places
   unfolding counts_in line_counts
   counts_are =
-      gather_same (λ (line : ℕ). length (line_places first second line) ∷ []) (λ (line : ℕ). length (on_line_lem places line) ∷ []) lines
+      gather_same (λ (line : ℕ). length (line_places first second line) ∷ []) (λ (line : ℕ). length (on_line places line) ∷ []) lines
       (λ line h. ap (λ (l : List ℕ). length l ∷ []) (sym (on_line_lem line h)))
 
   -- a list that is clear has no cell yet

@@ -1,0 +1,13 @@
+-- No x that was passed differs.
+-- Assumes nothing.
+use Rattle.std.proofs.Common.{◌≡◌, ◌+◌, ◌*◌, ◌<◌, ℕ, false}
+use Rattle.machine.specs.Sizes.{line_length}
+use Rattle.compare.specs.Places.{differs}
+use Rattle.compare.proofs.pixels.last_x.Given as goal
+
+abbrev pub invariant-loop-x : goal.invariant-loop-x
+invariant-loop-x l =
+    (l.x < line_length) × ((i : ℕ) → l.x < i → i < line_length → differs l.first l.second (line_length * l.line + i) ≡ false)
+
+abbrev pub decreases-loop-x : goal.decreases-loop-x
+decreases-loop-x l = l.x
