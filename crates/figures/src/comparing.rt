@@ -2,50 +2,57 @@
 use crate::{generated, mixing, report};
 use compare::{Comparison, LISTED_CELLS};
 use machine::{FRAME_LENGTH, LINES};
+use std::io::{Print, Result};
 
-pub(crate) fn pairs() {
-    pair(0, 0);
-    pair(1, 1);
-    pair(2, 8);
-    pair(3, 64);
-    pair(4, 512);
-    pair(5, 4_096);
-    pair(6, 32_768);
-    pair(7, 65_536);
+pub(crate) fn pairs(out: &impl Print) -> Result<()> {
+    pair(out, 0, 0)?;
+    pair(out, 1, 1)?;
+    pair(out, 2, 8)?;
+    pair(out, 3, 64)?;
+    pair(out, 4, 512)?;
+    pair(out, 5, 4_096)?;
+    pair(out, 6, 32_768)?;
+    pair(out, 7, 65_536)
 }
 
 // On the mean so many of 65,536 pixels differ. The lists hold something else before.
-fn pair(number: u8, limit: u64) {
+fn pair(out: &impl Print, number: u8, limit: u64) -> Result<()> {
     let mut first = [0u8; FRAME_LENGTH];
     generated::fill(&mut first, generated::RANDOM, mixing::seed(number));
     let mut second = first;
     change(&mut second, mixing::seed(number), limit);
     let mut counts = [7u16; LINES];
     let mut cells = [7u16; LISTED_CELLS];
-    report::field(b"compare ", number as u64);
-    report::field(b" limit ", limit);
-    compared(&first, &second, &mut counts, &mut cells);
-    report::end();
+    report::field(out, b"compare ", number as u64)?;
+    report::field(out, b" limit ", limit)?;
+    compared(out, &first, &second, &mut counts, &mut cells)?;
+    report::end(out)
 }
 
-fn compared(first: &[u8], second: &[u8], counts: &mut [u16], cells: &mut [u16]) {
+fn compared(
+    out: &impl Print,
+    first: &[u8],
+    second: &[u8],
+    counts: &mut [u16],
+    cells: &mut [u16],
+) -> Result<()> {
     let answer = compare::compare(first, second, counts, cells);
-    report_answer(answer);
-    report_list(b" counts ", counts);
-    report_list(b" list ", cells);
+    report_answer(out, &answer)?;
+    report_list(out, b" counts ", counts)?;
+    report_list(out, b" list ", cells)
 }
 
-fn report_answer(answer: Comparison) {
-    report_status(answer);
-    report::field(b" x ", answer.first_x as u64);
-    report::field(b" ", answer.last_x as u64);
-    report::field(b" line ", answer.first_line as u64);
-    report::field(b" ", answer.last_line as u64);
-    report_numbers(answer);
+fn report_answer(out: &impl Print, answer: &Comparison) -> Result<()> {
+    report_status(out, answer)?;
+    report::field(out, b" x ", answer.first_x as u64)?;
+    report::field(out, b" ", answer.last_x as u64)?;
+    report::field(out, b" line ", answer.first_line as u64)?;
+    report::field(out, b" ", answer.last_line as u64)?;
+    report_numbers(out, answer)
 }
 
-fn report_list(name: &[u8], numbers: &[u16]) {
-    report::named_digest(name, mixing::digest_numbers(numbers));
+fn report_list(out: &impl Print, name: &[u8], numbers: &[u16]) -> Result<()> {
+    report::named_digest(out, name, mixing::digest_numbers(numbers))
 }
 
 // Another byte at each place whose number of the generator is below the limit.
@@ -68,48 +75,54 @@ fn changed(byte: u8, differs: bool) -> u8 {
 }
 
 // Of each quadruple of lengths one is wrong.
-pub(crate) fn lengths() {
+pub(crate) fn lengths(out: &impl Print) -> Result<()> {
     let right = [0u8; FRAME_LENGTH];
     let long = [0u8; FRAME_LENGTH + 1];
-    frames(&right[..FRAME_LENGTH - 1], &long[..FRAME_LENGTH]);
-    frames(&right, &long);
+    frames(out, &right[..FRAME_LENGTH - 1], &long[..FRAME_LENGTH])?;
+    frames(out, &right, &long)?;
     let mut short_counts = [0u16; LINES - 1];
     let mut cells = [0u16; LISTED_CELLS];
-    lists(&mut short_counts, &mut cells);
+    lists(out, &mut short_counts, &mut cells)?;
     let mut counts = [0u16; LINES];
     let mut long_cells = [0u16; LISTED_CELLS + 1];
-    lists(&mut counts, &mut long_cells);
+    lists(out, &mut counts, &mut long_cells)
 }
 
-fn frames(first: &[u8], second: &[u8]) {
+fn frames(out: &impl Print, first: &[u8], second: &[u8]) -> Result<()> {
     let mut counts = [0u16; LINES];
     let mut cells = [0u16; LISTED_CELLS];
-    quadruple(first, second, &mut counts, &mut cells);
+    quadruple(out, first, second, &mut counts, &mut cells)
 }
 
-fn lists(counts: &mut [u16], cells: &mut [u16]) {
+fn lists(out: &impl Print, counts: &mut [u16], cells: &mut [u16]) -> Result<()> {
     let first = [0u8; FRAME_LENGTH];
     let second = [0u8; FRAME_LENGTH];
-    quadruple(&first, &second, counts, cells);
+    quadruple(out, &first, &second, counts, cells)
 }
 
-fn quadruple(first: &[u8], second: &[u8], counts: &mut [u16], cells: &mut [u16]) {
+fn quadruple(
+    out: &impl Print,
+    first: &[u8],
+    second: &[u8],
+    counts: &mut [u16],
+    cells: &mut [u16],
+) -> Result<()> {
     let answer = compare::compare(first, second, counts, cells);
-    report::field(b"compare lengths ", first.len() as u64);
-    report::field(b" ", second.len() as u64);
-    report::field(b" ", counts.len() as u64);
-    report::field(b" ", cells.len() as u64);
-    report_status(answer);
-    report_numbers(answer);
-    report::end();
+    report::field(out, b"compare lengths ", first.len() as u64)?;
+    report::field(out, b" ", second.len() as u64)?;
+    report::field(out, b" ", counts.len() as u64)?;
+    report::field(out, b" ", cells.len() as u64)?;
+    report_status(out, &answer)?;
+    report_numbers(out, &answer)?;
+    report::end(out)
 }
 
-fn report_status(answer: Comparison) {
-    report::field(b": status ", answer.status as u64);
-    report::field(b" empty ", answer.empty as u64);
+fn report_status(out: &impl Print, answer: &Comparison) -> Result<()> {
+    report::field(out, b": status ", answer.status as u64)?;
+    report::field(out, b" empty ", answer.empty as u64)
 }
 
-fn report_numbers(answer: Comparison) {
-    report::field(b" pixels ", answer.pixels as u64);
-    report::field(b" cells ", answer.cells as u64);
+fn report_numbers(out: &impl Print, answer: &Comparison) -> Result<()> {
+    report::field(out, b" pixels ", answer.pixels as u64)?;
+    report::field(out, b" cells ", answer.cells as u64)
 }

@@ -3,80 +3,82 @@
 use crate::{mixing, report};
 use bus::Latches;
 use machine::{PROFILE_16K, PROFILE_48K};
+use std::io::{Print, Result};
 
 const TARGETS: usize = 7;
 
-#[derive(Drop)]
+#[derive(Clone, Copy)]
 struct Tally {
     counts: [u64; 7],
     digest: u64,
 }
 
-pub(crate) fn settings() {
-    without_controller();
-    microdisc();
-    jasmin();
+pub(crate) fn settings(out: &impl Print) -> Result<()> {
+    without_controller(out)?;
+    microdisc(out)?;
+    jasmin(out)
 }
 
-fn without_controller() {
-    setting(PROFILE_48K, bus::KIND_NONE, 0, 0);
-    setting(PROFILE_48K, bus::KIND_NONE, 255, 255);
+fn without_controller(out: &impl Print) -> Result<()> {
+    setting(out, PROFILE_48K, bus::KIND_NONE, 0, 0)?;
+    setting(out, PROFILE_48K, bus::KIND_NONE, 255, 255)
 }
 
 // The 16K machine has no controller.
-pub(crate) fn settings_16k() {
-    setting(PROFILE_16K, bus::KIND_NONE, 0, 0);
-    setting(PROFILE_16K, bus::KIND_NONE, 255, 255);
+pub(crate) fn settings_16k(out: &impl Print) -> Result<()> {
+    setting(out, PROFILE_16K, bus::KIND_NONE, 0, 0)?;
+    setting(out, PROFILE_16K, bus::KIND_NONE, 255, 255)
 }
 
-fn microdisc() {
-    setting(PROFILE_48K, bus::KIND_MICRODISC, 0, 0);
-    setting(PROFILE_48K, bus::KIND_MICRODISC, 2, 0);
-    setting(PROFILE_48K, bus::KIND_MICRODISC, 128, 0);
-    setting(PROFILE_48K, bus::KIND_MICRODISC, 130, 0);
-    setting(PROFILE_48K, bus::KIND_MICRODISC, 253, 0);
-    setting(PROFILE_48K, bus::KIND_MICRODISC, 125, 255);
+fn microdisc(out: &impl Print) -> Result<()> {
+    setting(out, PROFILE_48K, bus::KIND_MICRODISC, 0, 0)?;
+    setting(out, PROFILE_48K, bus::KIND_MICRODISC, 2, 0)?;
+    setting(out, PROFILE_48K, bus::KIND_MICRODISC, 128, 0)?;
+    setting(out, PROFILE_48K, bus::KIND_MICRODISC, 130, 0)?;
+    setting(out, PROFILE_48K, bus::KIND_MICRODISC, 253, 0)?;
+    setting(out, PROFILE_48K, bus::KIND_MICRODISC, 125, 255)
 }
 
-fn jasmin() {
-    setting(PROFILE_48K, bus::KIND_JASMIN, 0, 0);
-    setting(PROFILE_48K, bus::KIND_JASMIN, 1, 0);
-    setting(PROFILE_48K, bus::KIND_JASMIN, 0, 1);
-    setting(PROFILE_48K, bus::KIND_JASMIN, 1, 1);
-    setting(PROFILE_48K, bus::KIND_JASMIN, 254, 254);
-    setting(PROFILE_48K, bus::KIND_JASMIN, 255, 254);
-    setting(PROFILE_48K, bus::KIND_JASMIN, 254, 255);
+fn jasmin(out: &impl Print) -> Result<()> {
+    setting(out, PROFILE_48K, bus::KIND_JASMIN, 0, 0)?;
+    setting(out, PROFILE_48K, bus::KIND_JASMIN, 1, 0)?;
+    setting(out, PROFILE_48K, bus::KIND_JASMIN, 0, 1)?;
+    setting(out, PROFILE_48K, bus::KIND_JASMIN, 1, 1)?;
+    setting(out, PROFILE_48K, bus::KIND_JASMIN, 254, 254)?;
+    setting(out, PROFILE_48K, bus::KIND_JASMIN, 255, 254)?;
+    setting(out, PROFILE_48K, bus::KIND_JASMIN, 254, 255)
 }
 
-fn setting(profile: u8, kind: u8, first: u8, second: u8) {
+fn setting(out: &impl Print, profile: u8, kind: u8, first: u8, second: u8) -> Result<()> {
     let latches = Latches {
         kind,
         first,
         second,
     };
     let tally = decode_all(profile, latches);
-    report::machine(profile);
-    report::field(b"decode kind ", kind as u64);
-    report::field(b" first ", first as u64);
-    report::field(b" second ", second as u64);
-    report::text(b":");
+    report::machine(out, profile)?;
+    report::field(out, b"decode kind ", kind as u64)?;
+    report::field(out, b" first ", first as u64)?;
+    report::field(out, b" second ", second as u64)?;
+    report::text(out, b":")?;
     let counts = tally.counts;
-    write_counts(&counts);
-    report::digest(tally.digest);
-    report::end();
+    write_counts(out, &counts)?;
+    report::digest(out, tally.digest)?;
+    report::end(out)
 }
 
-fn write_counts(counts: &[u64; 7]) {
+fn write_counts(out: &impl Print, counts: &[u64; 7]) -> Result<()> {
     let mut target = 0;
     while target < TARGETS {
-        write_count(target, counts[target]);
+        write_count(out, target, counts[target])?;
         target += 1;
     }
+    Ok(())
 }
 
-fn write_count(target: usize, count: u64) {
-    report::field(b" ", target as u64);
-    report::field(b" ", count);
+fn write_count(out: &impl Print, target: usize, count: u64) -> Result<()> {
+    report::field(out, b" ", target as u64)?;
+    report::field(out, b" ", count)
 }
 
 fn decode_all(profile: u8, latches: Latches) -> Tally {
@@ -97,7 +99,7 @@ impl Tally {
         let mut next = self;
         let target = decoded.target as usize;
         if target < TARGETS {
-            next.counts[target] = std::num::wrapping_add_u64(next.counts[target], 1);
+            next.counts[target] = next.counts[target].wrapping_add(1);
         }
         let d = mixing::digest_byte(self.digest, decoded.target);
         next.digest = mixing::digest_number(d, decoded.number);

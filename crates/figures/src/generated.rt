@@ -1,6 +1,7 @@
 // Frames of generated images: of four kinds, from every start mode, in both phases of the flash.
 use crate::{mixing, report};
 use machine::{FRAME_LENGTH, IMAGE_LENGTH, IMAGE_LENGTH_16K, PROFILE_16K, PROFILE_48K};
+use std::io::{Print, Result};
 use video::State;
 
 const KINDS: u8 = 4;
@@ -11,50 +12,50 @@ const ATTRIBUTES: u8 = 1;
 
 const TEXT: u8 = 2;
 
-pub(crate) fn frames(profile: u8) {
+pub(crate) fn frames(out: &impl Print, profile: u8) -> Result<()> {
     let mut i: u8 = 0;
     while i < 255 {
-        frame(profile, i);
+        frame(out, profile, i)?;
         i += 1;
     }
-    frame(profile, 255);
+    frame(out, profile, 255)
 }
 
-fn frame(profile: u8, i: u8) {
+fn frame(out: &impl Print, profile: u8, i: u8) -> Result<()> {
     if profile == PROFILE_16K {
-        frame_16k(i);
+        frame_16k(out, i)
     } else {
-        frame_48k(i);
+        frame_48k(out, i)
     }
 }
 
-fn frame_48k(i: u8) {
+fn frame_48k(out: &impl Print, i: u8) -> Result<()> {
     let mut image = [0u8; IMAGE_LENGTH];
     fill_as(&mut image, i);
-    painted(PROFILE_48K, i, &image);
+    painted(out, PROFILE_48K, i, &image)
 }
 
-fn frame_16k(i: u8) {
+fn frame_16k(out: &impl Print, i: u8) -> Result<()> {
     let mut image = [0u8; IMAGE_LENGTH_16K];
     fill_as(&mut image, i);
-    painted(PROFILE_16K, i, &image);
+    painted(out, PROFILE_16K, i, &image)
 }
 
-fn painted(profile: u8, i: u8, image: &[u8]) {
+fn painted(out: &impl Print, profile: u8, i: u8, image: &[u8]) -> Result<()> {
     let state = state_of(profile, i);
     let mut pixels = [0u8; FRAME_LENGTH];
     let answer = video::paint_frame(image, state, &mut pixels);
     let after = answer.state;
-    report::machine(profile);
-    report::field(b"image ", i as u64);
-    report::field(b" kind ", (i % KINDS) as u64);
-    report_state(state);
-    report::field(b": status ", answer.status as u64);
-    report_state(after);
-    report::field(b" screen ", answer.screen as u64);
-    report::field(b" character ", answer.character as u64);
-    report::digest(mixing::digest(&pixels));
-    report::end();
+    report::machine(out, profile)?;
+    report::field(out, b"image ", i as u64)?;
+    report::field(out, b" kind ", (i % KINDS) as u64)?;
+    report_state(out, state)?;
+    report::field(out, b": status ", answer.status as u64)?;
+    report_state(out, after)?;
+    report::field(out, b" screen ", answer.screen as u64)?;
+    report::field(out, b" character ", answer.character as u64)?;
+    report::digest(out, mixing::digest(&pixels))?;
+    report::end(out)
 }
 
 // The state that image i is painted from.
@@ -71,9 +72,9 @@ pub(crate) fn fill_as(image: &mut [u8], i: u8) {
     fill(image, i % KINDS, mixing::seed(i));
 }
 
-fn report_state(state: State) {
-    report::field(b" mode ", state.mode as u64);
-    report::field(b" counter ", state.counter as u64);
+fn report_state(out: &impl Print, state: State) -> Result<()> {
+    report::field(out, b" mode ", state.mode as u64)?;
+    report::field(out, b" counter ", state.counter as u64)
 }
 
 // The last count before ink is hidden, the first after it, and both ends.

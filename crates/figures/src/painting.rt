@@ -3,29 +3,30 @@ use crate::report;
 use machine::{
     FRAME_LENGTH, IMAGE_LENGTH, IMAGE_LENGTH_16K, LINE_LENGTH, PROFILE_16K, PROFILE_48K,
 };
+use std::io::{Print, Result};
 use video::State;
 
-pub(crate) fn lines() {
-    line(223);
-    line(224);
+pub(crate) fn lines(out: &impl Print) -> Result<()> {
+    line(out, 223)?;
+    line(out, 224)
 }
 
-fn line(number: usize) {
+fn line(out: &impl Print, number: usize) -> Result<()> {
     let image = [0u8; IMAGE_LENGTH];
     let mut pixels = [0u8; LINE_LENGTH];
     let answer = video::paint_line(&image, video::fresh_state(), number, &mut pixels);
-    report::field(b"line ", number as u64);
-    report::field(b": status ", answer.status as u64);
-    report::field(b" screen ", answer.screen as u64);
-    report::end();
+    report::field(out, b"line ", number as u64)?;
+    report::field(out, b": status ", answer.status as u64)?;
+    report::field(out, b" screen ", answer.screen as u64)?;
+    report::end(out)
 }
 
-pub(crate) fn counters() {
-    counter(31);
-    counter(32);
+pub(crate) fn counters(out: &impl Print) -> Result<()> {
+    counter(out, 31)?;
+    counter(out, 32)
 }
 
-fn counter(count: u8) {
+fn counter(out: &impl Print, count: u8) -> Result<()> {
     let image = [0u8; IMAGE_LENGTH];
     let state = State {
         mode: 2,
@@ -35,38 +36,38 @@ fn counter(count: u8) {
     let mut frame = [0u8; FRAME_LENGTH];
     let answer = video::paint_frame(&image, state, &mut frame);
     let after = answer.state;
-    report::field(b"counter ", count as u64);
-    report::field(b": status ", answer.status as u64);
-    report::field(b" counter ", after.counter as u64);
-    report::end();
+    report::field(out, b"counter ", count as u64)?;
+    report::field(out, b": status ", answer.status as u64)?;
+    report::field(out, b" counter ", after.counter as u64)?;
+    report::end(out)
 }
 
-pub(crate) fn memories() {
+pub(crate) fn memories(out: &impl Print) -> Result<()> {
     let bytes = [0u8; IMAGE_LENGTH + 1];
-    memory(PROFILE_48K, &bytes[..0]);
-    memory(PROFILE_48K, &bytes[..IMAGE_LENGTH - 1]);
-    memory(PROFILE_48K, &bytes[..IMAGE_LENGTH]);
-    memory(PROFILE_48K, &bytes);
+    memory(out, PROFILE_48K, &bytes[..0])?;
+    memory(out, PROFILE_48K, &bytes[..IMAGE_LENGTH - 1])?;
+    memory(out, PROFILE_48K, &bytes[..IMAGE_LENGTH])?;
+    memory(out, PROFILE_48K, &bytes)
 }
 
 // Each profile takes its own length alone, and there are two profiles.
-pub(crate) fn profiles() {
+pub(crate) fn profiles(out: &impl Print) -> Result<()> {
     let bytes = [0u8; IMAGE_LENGTH];
-    profile(PROFILE_16K, &bytes[..0]);
-    profile(PROFILE_16K, &bytes[..IMAGE_LENGTH_16K - 1]);
-    profile(PROFILE_16K, &bytes[..IMAGE_LENGTH_16K]);
-    profile(PROFILE_16K, &bytes[..IMAGE_LENGTH_16K + 1]);
-    profile(PROFILE_16K, &bytes);
-    profile(PROFILE_48K, &bytes[..IMAGE_LENGTH_16K]);
-    profile(2, &bytes);
+    profile(out, PROFILE_16K, &bytes[..0])?;
+    profile(out, PROFILE_16K, &bytes[..IMAGE_LENGTH_16K - 1])?;
+    profile(out, PROFILE_16K, &bytes[..IMAGE_LENGTH_16K])?;
+    profile(out, PROFILE_16K, &bytes[..IMAGE_LENGTH_16K + 1])?;
+    profile(out, PROFILE_16K, &bytes)?;
+    profile(out, PROFILE_48K, &bytes[..IMAGE_LENGTH_16K])?;
+    profile(out, 2, &bytes)
 }
 
-fn profile(number: u8, image: &[u8]) {
-    report::profile(number);
-    memory(number, image);
+fn profile(out: &impl Print, number: u8, image: &[u8]) -> Result<()> {
+    report::profile(out, number)?;
+    memory(out, number, image)
 }
 
-fn memory(profile: u8, image: &[u8]) {
+fn memory(out: &impl Print, profile: u8, image: &[u8]) -> Result<()> {
     let fresh = video::fresh_state();
     let state = State {
         mode: fresh.mode,
@@ -75,7 +76,7 @@ fn memory(profile: u8, image: &[u8]) {
     };
     let mut frame = [0u8; FRAME_LENGTH];
     let answer = video::paint_frame(image, state, &mut frame);
-    report::field(b"memory ", image.len() as u64);
-    report::field(b": status ", answer.status as u64);
-    report::end();
+    report::field(out, b"memory ", image.len() as u64)?;
+    report::field(out, b": status ", answer.status as u64)?;
+    report::end(out)
 }

@@ -1,22 +1,23 @@
 // Writes what was called and what came back, a line each.
-use libc::STDOUT_FILENO;
 use machine::PROFILE_48K;
+use std::io::{Print, Result};
 
-pub(crate) fn text(part: &[u8]) {
-    io::write_all(STDOUT_FILENO, part);
+pub(crate) fn text(out: &impl Print, part: &[u8]) -> Result<()> {
+    out.write_all(part)
 }
 
-pub(crate) fn field(name: &[u8], n: u64) {
-    text(name);
-    io::print_decimal(STDOUT_FILENO, n);
+pub(crate) fn field(out: &impl Print, name: &[u8], n: u64) -> Result<()> {
+    text(out, name)?;
+    print!(out; "{n}")
 }
 
-pub(crate) fn signed_field(name: &[u8], n: i8) {
-    text(name);
+pub(crate) fn signed_field(out: &impl Print, name: &[u8], n: i8) -> Result<()> {
+    text(out, name)?;
     if n < 0 {
-        text(b"-");
+        text(out, b"-")?;
     }
-    io::print_decimal(STDOUT_FILENO, distance(n));
+    let distance = distance(n);
+    print!(out; "{distance}")
 }
 
 // From zero.
@@ -28,40 +29,44 @@ fn distance(n: i8) -> u64 {
     }
 }
 
-pub(crate) fn profile(profile: u8) {
-    field(b"profile ", profile as u64);
-    text(b" ");
+pub(crate) fn profile(out: &impl Print, profile: u8) -> Result<()> {
+    field(out, b"profile ", profile as u64)?;
+    text(out, b" ")
 }
 
 // A line of the 48K machine does not name its profile.
-pub(crate) fn machine(profile: u8) {
+pub(crate) fn machine(out: &impl Print, profile: u8) -> Result<()> {
     if profile != PROFILE_48K {
-        self::profile(profile);
+        self::profile(out, profile)?;
     }
+    Ok(())
 }
 
-pub(crate) fn end() {
-    text(b"\n");
+pub(crate) fn end(out: &impl Print) -> Result<()> {
+    text(out, b"\n")
 }
 
-pub(crate) fn digest(n: u64) {
-    named_digest(b" digest ", n);
+pub(crate) fn digest(out: &impl Print, n: u64) -> Result<()> {
+    named_digest(out, b" digest ", n)
 }
 
-pub(crate) fn named_digest(name: &[u8], n: u64) {
-    text(name);
-    io::print_hex(STDOUT_FILENO, n, 16);
+pub(crate) fn named_digest(out: &impl Print, name: &[u8], n: u64) -> Result<()> {
+    text(out, name)?;
+    print!(out; "{n:016x}")
 }
 
 // Four hexadecimal digits in capitals, after a blank.
-pub(crate) fn address(n: u16) {
-    text(&[
-        b' ',
-        hex_digit(n / 4096),
-        hex_digit(n / 256),
-        hex_digit(n / 16),
-        hex_digit(n),
-    ]);
+pub(crate) fn address(out: &impl Print, n: u16) -> Result<()> {
+    text(
+        out,
+        &[
+            b' ',
+            hex_digit(n / 4096),
+            hex_digit(n / 256),
+            hex_digit(n / 16),
+            hex_digit(n),
+        ],
+    )
 }
 
 // The last digit of a number.

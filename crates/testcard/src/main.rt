@@ -12,8 +12,9 @@ mod text;
 ghost use Rattle.std.specs.Prelude.{◌≡◌, ◌≤◌, ◌<◌, length};
 
 use attributes::{ALTERNATE, ALTERNATE_DOUBLE, DOUBLE, FLASH, HIRES, INK, INVERSE, PAPER, TEXT};
-use libc::STDOUT_FILENO;
 use sets::{BLOCK, MOSAIC};
+use std::io;
+use std::io::Write;
 use text::{SPACE, attribute, bars, codes, inverse, write};
 
 // Rows 0 and 1 hold the same text, its upper and its lower half. Row 2 numbers the columns.
@@ -133,7 +134,7 @@ fn last_row(image: &mut [u8])
     inverse(image, 27, 0, 40);
 }
 
-fn main() {
+fn main(rt: HostRuntime) -> io::Result<()> {
     let mut image = [0u8; 65536];
     sets::text_standard(&mut image);
     sets::text_alternate(&mut image);
@@ -151,5 +152,5 @@ fn main() {
     bottom_standard(&mut image);
     bottom_alternate(&mut image);
     last_row(&mut image);
-    io::write_all(STDOUT_FILENO, &image);
+    rt.stdout().write_all(&image)
 }
