@@ -9,21 +9,19 @@ LIB = $(MAKE) --no-print-directory lib
 
 .PHONY: run card lib check test bench
 run:
-	@rt check listing >&2
-	@target/bin/listing < "$(IMAGE)"
+	@cd crates/listing && rt run < "$(abspath $(IMAGE))"
 
 card:
-	@rt check figures >&2
-	@target/bin/figures | sed -n 's/^card //p'
+	@cd crates/figures && rt run | sed -n 's/^card //p'
 
 lib:
-	@rt staticlib tropfenpfad
-	@install -D -m 644 -t target/lib target/staticlib/libtropfenpfad.a
+	@cd crates/tropfenpfad && rt lib
+	@install -D -m 644 -t target/lib crates/tropfenpfad/out/libtropfenpfad.a
 	@install -D -m 644 -t target/include include/tropfenpfad.h
 	@echo 'lib: target/lib/libtropfenpfad.a and target/include/tropfenpfad.h'
 
 check:
-	@rt check
+	@rt all check
 	@tests/listing
 	@$(LIB)
 	@cd host && cargo test --quiet --release --offline --workspace -- --skip long::

@@ -11,8 +11,8 @@
  * two frames differ, and the search for a slip says by how many pixels a line
  * stands beside its place.
  * The archive is libtropfenpfad.a (x86-64 Linux); it needs the C library's
- * memcpy and nothing else. `make lib` puts it into target/lib and this header
- * into target/include. The example is compiled so:
+ * memcpy and memset and nothing else. `make lib` puts it into target/lib and
+ * this header into target/include. The example is compiled so:
  *
  *   cc -std=c11 -Itarget/include host/tropfenpfad/examples/paint.c -Ltarget/lib -ltropfenpfad -o target/paint
  *

@@ -1,6 +1,6 @@
 //! Finds the proved archive and links it.
 //!
-//! Its directory is the one that TROPFENPFAD_LIB names, else target/staticlib of the repository; a
+//! Its directory is the one that TROPFENPFAD_LIB names, else target/lib of the repository; a
 //! relative name starts at the workspace, host/.
 
 use std::env;
@@ -31,7 +31,7 @@ fn archive_directory() -> PathBuf {
     let workspace = Path::new(&package).parent().expect("it stands in host/");
     let directory = match env::var_os("TROPFENPFAD_LIB") {
         Some(named) => workspace.join(named),
-        None => workspace.with_file_name("target").join("staticlib"),
+        None => workspace.with_file_name("target").join("lib"),
     };
     directory.canonicalize().unwrap_or(directory)
 }

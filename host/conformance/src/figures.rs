@@ -3,8 +3,8 @@
 use std::fmt::Write;
 
 use tropfenpfad_sys::{
-    Cycle, Latches, Painted, Slip, State, FRAME_LENGTH, IMAGE_LENGTH, IMAGE_LENGTH_16K, LINES,
-    LINE_LENGTH, LISTED_CELLS, LONGEST_TRACE, MAP_LENGTH, PROFILE_16K, PROFILE_48K,
+    Latches, Painted, Slip, State, FRAME_LENGTH, IMAGE_LENGTH, IMAGE_LENGTH_16K, LINES,
+    LINE_LENGTH, LISTED_CELLS, MAP_LENGTH, PROFILE_16K, PROFILE_48K,
 };
 
 use crate::inputs::image_length;
@@ -77,28 +77,13 @@ const SEARCHED: [[usize; 2]; 2] = [
     [LINE_LENGTH, LINE_LENGTH + 1],
 ];
 
-/// Profiles and kinds whose lists are traced.
-const TRACED: [(u8, u8); 4] = [
-    (PROFILE_48K, 0),
-    (PROFILE_48K, 1),
-    (PROFILE_48K, 2),
-    (PROFILE_16K, 0),
-];
-/// Runs of lists of each.
-const RUNS: u64 = 3;
-/// Those that are refused: no such kind, and a controller that the 16K machine cannot have.
-const UNTRACED: [(u8, u8); 2] = [(PROFILE_48K, 3), (PROFILE_16K, 1)];
-/// Records of a run: as many as one call takes.
-const RECORDS: usize = LONGEST_TRACE;
-
 /// A mode of each half of the card of line starts.
 const HALVES: [(&str, u8); 2] = [("text", 2), ("hires", 6)];
 /// Lines to a row of the card.
 const CARD_ROW: usize = 8;
 
 /// All lines, each ended by a line feed: limits, decodes and images of the 48K machine, then of the
-/// 16K machine, whose lines begin with the profile, then maps, comparisons, slips, traces, and the
-/// card.
+/// 16K machine, whose lines begin with the profile, then maps, comparisons, slips, and the card.
 pub fn lines() -> String {
     let (video, bus) = (Video::new(), Bus::new());
     let mut text = String::new();
@@ -158,14 +143,6 @@ pub fn lines() -> String {
     }
     for lengths in SEARCHED {
         text += &searched_lengths_line(lengths);
-    }
-    for machine in TRACED {
-        for run in 0..RUNS {
-            text += &trace_line(&bus, machine, run);
-        }
-    }
-    for machine in UNTRACED {
-        text += &trace_line(&bus, machine, 0);
     }
     for half in HALVES {
         for first in (0..LINES).step_by(CARD_ROW) {
@@ -259,22 +236,17 @@ fn map_image_line(model: &Video, profile: u8, image: u64, map: &mut [u8]) -> Str
     let memory = generate(image, image_length(profile));
     let mut frame = vec![0; FRAME_LENGTH];
     let painted = model.paint_frame_mapped(&memory, state_of(profile, image), &mut frame, map);
+    let machine = match profile {
+        PROFILE_48K => String::new(),
+        _ => format!("profile {profile} "),
+    };
     format!(
-        "{}map image {image}: status {} character {} marked {} digest {:016x}\n",
-        machine(profile),
+        "{machine}map image {image}: status {} character {} marked {} digest {:016x}\n",
         painted.status,
         painted.character,
         marked(map).len(),
         digest_of_bytes(map)
     )
-}
-
-/// A line of the 48K machine does not name its profile.
-fn machine(profile: u8) -> String {
-    match profile {
-        PROFILE_48K => String::new(),
-        _ => format!("profile {profile} "),
-    }
 }
 
 /// Marks what one line of an image of zeros used from the fresh state.
@@ -395,70 +367,6 @@ fn found(reference: &[u8], grabbed: &[u8]) -> String {
         disagreements,
     } = slip::find_slip(reference, grabbed);
     format!("status {status} slip {slip} disagreements {disagreements}\n")
-}
-
-/// Traces all records of a run in one list, where the program traces many lists, one after the
-/// other. The fields that a trace fills in hold something else before.
-fn trace_line(model: &Bus, (profile, kind): (u8, u8), run: u64) -> String {
-    let mut memory = random_bytes(run, image_length(profile));
-    let mut cycles: Vec<Cycle> = numbers_from(run).map(record).take(RECORDS).collect();
-    let latches = Latches {
-        kind,
-        first: 0,
-        second: 0,
-    };
-    let stored = digest_of_bytes(&memory);
-    let asked = digest_of_records(&cycles);
-    let traced = model.trace(&mut memory, profile, latches, &mut cycles);
-    let after = traced.latches;
-    format!(
-        "{}trace kind {kind} run {run}: status {} kind {} first {} second {} \
-         records {asked:016x} {:016x} memory {stored:016x} {:016x}\n",
-        machine(profile),
-        traced.status,
-        after.kind,
-        after.first,
-        after.second,
-        digest_of_records(&cycles),
-        digest_of_bytes(&memory)
-    )
-}
-
-fn record(x: u64) -> Cycle {
-    let [byte, byte_read, direction, low, target, high, choice, _] = x.to_le_bytes();
-    Cycle {
-        address: address(choice % 8, u16::from_le_bytes([target, high])),
-        write: direction.saturating_sub(127),
-        byte,
-        number: u16::from_le_bytes([low, target]),
-        target,
-        byte_read,
-    }
-}
-
-/// One of a few in each 16K, in page 3, or any.
-fn address(choice: u8, n: u16) -> u16 {
-    match choice {
-        0 => [0x0000, 0x4000, 0x8000][usize::from(n >> 4) % 3] | n & 0x0F,
-        1 => 0xC000 | n & 0x0F,
-        2 => 0xE000 | n & 0x0F,
-        3 => 0x0300 | n & 0xFF,
-        4 => 0x0314,
-        5 => 0x03FA,
-        6 => 0x03FB,
-        _ => n,
-    }
-}
-
-fn digest_of_records(cycles: &[Cycle]) -> u64 {
-    let mut digest = Digest::new();
-    for cycle in cycles {
-        digest.take(&cycle.address.to_le_bytes());
-        digest.take(&[cycle.write, cycle.byte]);
-        digest.take(&cycle.number.to_le_bytes());
-        digest.take(&[cycle.target, cycle.byte_read]);
-    }
-    digest.0
 }
 
 /// A row of the card: where lines begin, from this one on.

@@ -25,13 +25,13 @@ fn stored_figures_that_are_stale() {
     let maps = 2 * 8 + 2 + 3;
     assert_eq!(
         made.lines().count(),
-        machines + maps + 8 + 4 + 25 + 7 + 2 + 14 + 56
+        machines + maps + 8 + 4 + 25 + 7 + 2 + 56
     );
     let stored = files::text("crates/figures/stdout");
     assert!(stored == made, "{}", first_difference(&stored, &made));
     println!(
         "figures: 15 limits, 256 paintings in each profile, 17 times 65,536 decodes, 21 maps, \
-         12 comparisons, 34 slips, 14 times 1,024 records of traces, 448 line starts compared"
+         12 comparisons, 34 slips, 448 line starts compared"
     );
 }
 

@@ -20,7 +20,7 @@
 //! # Ok::<(), tropfenpfad::Refusal>(())
 //! ```
 //!
-//! The archive is found in `target/staticlib` of the repository, where `make lib` puts it, or in
+//! The archive is found in `target/lib` of the repository, where `make lib` puts it, or in
 //! the directory that the environment variable `TROPFENPFAD_LIB` names during the build.
 
 #![deny(missing_docs)]

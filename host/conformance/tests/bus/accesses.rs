@@ -4,12 +4,18 @@ use tropfenpfad::{Place, Target};
 use tropfenpfad_conformance::accesses::{Form, Step, TwoBuses};
 use tropfenpfad_conformance::calls;
 use tropfenpfad_conformance::images::{self, Kind};
-use tropfenpfad_conformance::inputs::{
-    fresh_of_kind, in_each_profile, latches, random_latches, PROFILES,
-};
+use tropfenpfad_conformance::inputs::{fresh_of_kind, in_each_profile, random_latches, PROFILES};
 use tropfenpfad_conformance::model::Bus;
 use tropfenpfad_conformance::random::Xorshift;
 use tropfenpfad_sys::{Latches, KIND_JASMIN, KIND_MICRODISC, KIND_NONE, PROFILE_16K, PROFILE_48K};
+
+fn latches(kind: u8, first: u8, second: u8) -> Latches {
+    Latches {
+        kind,
+        first,
+        second,
+    }
+}
 
 /// Compares the decode of one address.
 fn compare_decode(model: &Bus, profile: u8, latches: Latches, address: u16) {

@@ -3,9 +3,9 @@
 use std::ptr;
 
 use tropfenpfad_conformance::calls;
-use tropfenpfad_conformance::guarded::{boards, memories, Against, Lent, SIDES};
+use tropfenpfad_conformance::guarded::{memories, Against, Lent, SIDES};
 use tropfenpfad_conformance::images::Kind;
-use tropfenpfad_conformance::inputs::{in_each_profile, latches, NO_MACHINES};
+use tropfenpfad_conformance::inputs::in_each_profile;
 use tropfenpfad_conformance::model::Bus;
 use tropfenpfad_sys::{self as ffi, Access, Latches, Written};
 
@@ -13,6 +13,31 @@ const ADDRESSES: [u16; 16] = [
     0x0000, 0x0300, 0x0314, 0x03FA, 0x03FB, 0x3FFF, 0x4000, 0x4300, 0x7FFF, 0x8000, 0xBFFF, 0xC000,
     0xDFFF, 0xE000, 0xFFFE, 0xFFFF,
 ];
+
+fn record(kind: u8, first: u8, second: u8) -> Latches {
+    Latches {
+        kind,
+        first,
+        second,
+    }
+}
+
+/// Latches of every kind, a refused one too, with bits that select each thing at C000, in both
+/// profiles and in a wrong one.
+fn boards() -> impl Iterator<Item = (u8, Latches)> {
+    let mut records = vec![record(0, 0, 0), record(255, 1, 1)];
+    for first in [0x00, 0x01, 0x02, 0x80] {
+        records.extend([
+            record(1, first, 0),
+            record(2, first, 0),
+            record(2, first, 1),
+        ]);
+    }
+    (0..3).flat_map(move |profile| {
+        let records = records.clone().into_iter();
+        records.map(move |record| (profile, record))
+    })
+}
 
 /// The bytes of a latch record as it is lent.
 fn bytes(latches: Latches) -> Vec<u8> {
@@ -105,11 +130,13 @@ fn a_write_in_place_that_leaves_its_buffers() {
 
 #[test]
 fn a_refused_write_that_stores() {
+    // A kind that there is not, a controller that the 16K machine has not, and a wrong profile.
+    let refused = [(0, 3), (1, 3), (1, 1), (1, 2), (2, 0)];
     let mut calls = 0;
     for memory in memories(Kind::Random) {
         memory.make_read_only();
-        for (profile, kind) in NO_MACHINES {
-            let record = latches(kind, 0x80, 1);
+        for (profile, kind) in refused {
+            let record = record(kind, 0x80, 1);
             for address in ADDRESSES {
                 let kept = Lent::new(Against::End, bytes(record));
                 assert_ne!(write(&memory, profile, record, address, 0).status, 0);
