@@ -9,7 +9,7 @@ LIB = $(MAKE) --no-print-directory lib
 
 .PHONY: run card lib check test bench
 run:
-	@cd crates/listing && rt run < "$(abspath $(IMAGE))"
+	@(cd crates/listing && rt run) < "$(IMAGE)"
 
 card:
 	@cd crates/figures && rt run | sed -n 's/^card //p'

@@ -7,7 +7,7 @@ use crate::place::{Place, TARGET_OVERLAY_RAM, TARGET_RAM, reach};
 use machine::{DONE, controller_refusal, kind_refusal, memory_refusal, profile_refusal};
 
 #[repr(C)]
-#[derive(Drop)]
+#[derive(Clone, Copy)]
 pub struct Access {
     pub status: u8,
     pub target: u8,
@@ -17,7 +17,7 @@ pub struct Access {
 }
 
 #[repr(C)]
-#[derive(Drop)]
+#[derive(Clone, Copy)]
 pub struct Written {
     pub status: u8,
     pub target: u8,

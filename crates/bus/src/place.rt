@@ -42,7 +42,7 @@ const JASMIN_OVERLAY: u8 = 1;
 const JASMIN_EPROM: u8 = 1;
 
 #[repr(C)]
-#[derive(Drop)]
+#[derive(Clone, Copy)]
 pub struct Decoded {
     pub status: u8,
     pub target: u8,

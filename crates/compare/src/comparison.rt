@@ -6,7 +6,7 @@ ghost use Rattle.compare.specs.Internal.{nothing, Small, reported};
 use machine::{DONE, LINE_LENGTH, LINES};
 
 #[repr(C)]
-#[derive(Drop)]
+#[derive(Clone, Copy)]
 pub struct Comparison {
     pub status: u8,
     pub empty: bool,
@@ -20,7 +20,7 @@ pub struct Comparison {
 
 // What the lines so far come to: the sides of the rectangle, and how many pixels and cells differ. Before the first difference the
 // left side is 240 and the top 224, right and bottom are 0.
-#[derive(Drop)]
+#[derive(Clone, Copy)]
 pub(crate) struct Found {
     pub left: usize,
     pub right: usize,

@@ -37,12 +37,12 @@ fn compared(
     cells: &mut [u16],
 ) -> Result<()> {
     let answer = compare::compare(first, second, counts, cells);
-    report_answer(out, &answer)?;
+    report_answer(out, answer)?;
     report_list(out, b" counts ", counts)?;
     report_list(out, b" list ", cells)
 }
 
-fn report_answer(out: &impl Print, answer: &Comparison) -> Result<()> {
+fn report_answer(out: &impl Print, answer: Comparison) -> Result<()> {
     report_status(out, answer)?;
     report::field(out, b" x ", answer.first_x as u64)?;
     report::field(out, b" ", answer.last_x as u64)?;
@@ -112,17 +112,17 @@ fn quadruple(
     report::field(out, b" ", second.len() as u64)?;
     report::field(out, b" ", counts.len() as u64)?;
     report::field(out, b" ", cells.len() as u64)?;
-    report_status(out, &answer)?;
-    report_numbers(out, &answer)?;
+    report_status(out, answer)?;
+    report_numbers(out, answer)?;
     report::end(out)
 }
 
-fn report_status(out: &impl Print, answer: &Comparison) -> Result<()> {
+fn report_status(out: &impl Print, answer: Comparison) -> Result<()> {
     report::field(out, b": status ", answer.status as u64)?;
     report::field(out, b" empty ", answer.empty as u64)
 }
 
-fn report_numbers(out: &impl Print, answer: &Comparison) -> Result<()> {
+fn report_numbers(out: &impl Print, answer: Comparison) -> Result<()> {
     report::field(out, b" pixels ", answer.pixels as u64)?;
     report::field(out, b" cells ", answer.cells as u64)
 }

@@ -12,7 +12,7 @@ const FIRST_SLIP: isize = -12;
 const LAST_SLIP: isize = 12;
 
 #[repr(C)]
-#[derive(Drop)]
+#[derive(Clone, Copy)]
 pub struct Slip {
     pub status: u8,
     pub slip: i8,

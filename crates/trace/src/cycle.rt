@@ -20,7 +20,7 @@ pub struct Cycle {
 }
 
 // A record that was answered, and the latches for the next one.
-#[derive(Drop)]
+#[derive(Clone, Copy)]
 pub(crate) struct Stepped {
     pub cycle: Cycle,
     pub latches: Latches,

@@ -10,14 +10,14 @@ use machine::{
 };
 
 #[repr(C)]
-#[derive(Drop)]
+#[derive(Clone, Copy)]
 pub struct Traced {
     pub status: u8,
     pub latches: Latches,
 }
 
 // What is said of a call before its first record.
-#[derive(Drop)]
+#[derive(Clone, Copy)]
 pub(crate) struct Judged {
     pub status: u8,
     // How many records are answered: none where the call is refused.

@@ -39,7 +39,7 @@ const ALTERNATE: u64 = 1;
 const DOUBLE_HEIGHT: u64 = 2;
 
 #[repr(C)]
-#[derive(Drop)]
+#[derive(Clone, Copy)]
 pub struct Address {
     pub status: u8,
     pub address: u16,

@@ -11,7 +11,7 @@ use machine::{
 };
 
 #[repr(C)]
-#[derive(Drop)]
+#[derive(Clone, Copy)]
 pub struct Painted {
     // 0, or the refusal.
     pub status: u8,

@@ -21,7 +21,7 @@ use machine::{CELL_LENGTH, COLUMNS, DONE, LINE_LENGTH, line_refusal, output_refu
 use used_map::MAP_LENGTH;
 
 // The registers that a line leaves, and how many screen bytes and character bytes it used.
-#[derive(Drop)]
+#[derive(Clone, Copy)]
 pub(crate) struct PaintedLine {
     pub registers: Registers,
     pub screen: u64,
