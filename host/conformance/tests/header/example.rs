@@ -1,7 +1,6 @@
 //! The C example, compiled with all warnings and by the command that its users are told.
 
 use std::fs::{self, File};
-use std::os::unix::fs::symlink;
 use std::path::{Path, PathBuf};
 use std::process::{Command, Stdio};
 
@@ -31,13 +30,19 @@ fn after_make_lib() -> PathBuf {
     if root.exists() {
         fs::remove_dir_all(&root).unwrap();
     }
-    for directory in ["target/include", "target/lib"] {
-        fs::create_dir_all(root.join(directory)).unwrap();
+    let example = root.join(EXAMPLE);
+    let examples = example.parent().expect("the example stands in a directory");
+    for directory in [
+        &root.join("target/include"),
+        &root.join("target/lib"),
+        examples,
+    ] {
+        fs::create_dir_all(directory).unwrap();
     }
     let header = root.join("target/include/tropfenpfad.h");
     fs::copy(files::path(HEADER), header).unwrap();
     fs::copy(archive(), root.join("target/lib/libtropfenpfad.a")).unwrap();
-    symlink(files::root().join("host"), root.join("host")).unwrap();
+    fs::copy(files::path(EXAMPLE), &example).unwrap();
     root
 }
 
