@@ -1,3 +1,3 @@
 pub mod Decimal
-pub mod Lists
+pub mod Input
 pub mod Sample

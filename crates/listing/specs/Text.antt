@@ -1,7 +1,6 @@
 -- The text of the listing, as lists of bytes.
 -- Assumes nothing.
-use Rattle.std.specs.Prelude.{ℕ, zero, suc, ◌+◌, ◌/◌, ◌%◌, ◌≡◌, cond, List, [], ◌∷◌, ◌++◌, map, ltb, length, take}
-use Rattle.io.specs.Counts.{IsPrefixLen}
+use Rattle.std.specs.Prelude.{ℕ, zero, suc, ◌+◌, ◌/◌, ◌%◌, cond, List, [], ◌∷◌, ◌++◌, map, ltb}
 use Rattle.video.specs.declared.answer.Painted.{Painted}
 
 -- the byte that ends a line
@@ -65,9 +64,3 @@ closing_text answer =
 -- the only line where the painting is refused
 abbrev pub refused_text : ℕ → List ℕ
 refused_text status = field refused_word status ++ line_feed
-
--- a text after a part was put in: its first bytes up to `at` as before, then the part, up to `end`
-pub record Appended (before : List ℕ) (at : ℕ) (part after : List ℕ) (end : ℕ) : Type 0 where
-  pub within : IsPrefixLen end after
-  pub ends : end ≡ at + length part
-  pub text : take end after ≡ take at before ++ part
