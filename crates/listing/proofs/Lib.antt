@@ -1,3 +1,4 @@
 pub mod Decimal
 pub mod Input
+pub mod Output
 pub mod Sample

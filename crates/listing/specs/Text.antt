@@ -1,6 +1,9 @@
 -- The text of the listing, as lists of bytes.
 -- Assumes nothing.
-use Rattle.std.specs.Prelude.{ℕ, zero, suc, ◌+◌, ◌/◌, ◌%◌, cond, List, [], ◌∷◌, ◌++◌, map, ltb}
+use Rattle.std.specs.Prelude.{ℕ, zero, suc, ◌+◌, ◌/◌, ◌%◌, cond, List, [], ◌∷◌, ◌++◌, map, eqb, ltb}
+use Rattle.std.specs.List.{flat_map}
+use Rattle.std.specs.Simd.{first_chunks}
+use Rattle.machine.specs.Sizes.{line_length, lines}
 use Rattle.video.specs.declared.answer.Painted.{Painted}
 
 -- the byte that ends a line
@@ -64,3 +67,12 @@ closing_text answer =
 -- the only line where the painting is refused
 abbrev pub refused_text : ℕ → List ℕ
 refused_text status = field refused_word status ++ line_feed
+
+-- the lines of a frame, one after another
+unfoldable pub frame_text : List ℕ → List ℕ
+frame_text frame = flat_map line_text (first_chunks line_length lines frame)
+
+-- all that is written: the frame and the last line, or the only line where the painting is refused
+abbrev pub listing_text : Painted → List ℕ → List ℕ
+listing_text answer frame =
+    cond (eqb answer.status 0) (frame_text frame ++ closing_text answer) (refused_text answer.status)

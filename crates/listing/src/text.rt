@@ -1,5 +1,5 @@
 // The text of the listing: a line of the frame, the closing line, the line of a refusal.
-// The promise of a Display speaks only of a writing that goes well, so a text is made here, whole, and written after.
+// No Display: it would promise its text only where `fmt` answers Ok, and these texts are promised for every input.
 ghost use Rattle.std.specs.Prelude.{◌≡◌, ◌+◌, ◌≤◌, ◌++◌, length};
 ghost use Rattle.arrayvec.specs.ArrayString.{array_string_len};
 ghost use Rattle.listing.specs.Text.{line_text, closing_text, refused_text};
@@ -10,14 +10,14 @@ use machine::LINE_LENGTH;
 use video::Painted;
 
 // A line has a digit for each pixel, and a line feed.
-pub(crate) const LINE_TEXT_LENGTH: usize = LINE_LENGTH + 1;
+const LINE_TEXT_LENGTH: usize = LINE_LENGTH + 1;
 
 // The longest closing line: its words, 3 digits for the mode and the counter, 10 for each count, a line feed.
 // That is (5 + 3) + (9 + 3) + (8 + 10) + (11 + 10) + 1.
-pub(crate) const CLOSING_LENGTH: usize = 60;
+const CLOSING_LENGTH: usize = 60;
 
 // The longest refusal: its word, 3 digits for the status, a line feed. That is (8 + 3) + 1.
-pub(crate) const REFUSAL_LENGTH: usize = 12;
+const REFUSAL_LENGTH: usize = 12;
 
 // A pixel is a colour, 0 to 7.
 const COLOURS: u8 = 8;
