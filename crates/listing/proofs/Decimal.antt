@@ -1,10 +1,9 @@
 -- The decimal text of this crate is that of the library.
 -- Assumes nothing.
-use Rattle.std.proofs.Common.{ℕ, ◌^◌, ◌<◌, ◌≡◌, arith}
+use Rattle.std.proofs.Common.{ℕ, ◌^◌, ◌<◌, ◌≡◌, rules, arith}
 use Rattle.std.proofs.lemmas.Fmt.{decimal_from_appends, AppendsLastDigit, length-decimal-le}
 use Rattle.std.specs.Fmt.{decimal as digits}
 use Rattle.listing.specs.Text.{decimal_in, decimal}
-use Rattle.std.proofs.Common.{rules}
 
 appends : AppendsLastDigit decimal_in
 unfolding decimal_in
