@@ -1,5 +1,5 @@
 // The text of the listing: a line of the frame, the closing line, the line of a refusal.
-// No Display: it would promise its text only where `fmt` answers Ok, and these texts are promised for every input.
+// No Display: it promises its text only where `fmt` answers Ok, and the clauses of closing_line and refusal_line hold on every input.
 ghost use Rattle.std.specs.Prelude.{◌≡◌, ◌+◌, ◌≤◌, ◌++◌, length};
 ghost use Rattle.arrayvec.specs.ArrayString.{array_string_len};
 ghost use Rattle.listing.specs.Text.{line_text, closing_text, refused_text};
