@@ -1,8 +1,8 @@
 // The character sets: eight bytes a code, the alternate set 400 hex above the standard one.
-ghost use Rattle.std.specs.Prelude.{◌≡◌, ◌<◌, length};
+ghost use Rattle.std.specs.Prelude.{◌+◌, ◌≤◌, ◌<◌};
 
 use crate::glyphs::{LETTERS, SIGNS};
-use crate::memory::{fill, put};
+use crate::memory::Image;
 
 // The standard set in text mode.
 const TEXT_SET: usize = 0xB400;
@@ -31,45 +31,45 @@ pub const BLOCK: u8 = 127;
 // The code of the first of 64 mosaics.
 pub const MOSAIC: u8 = 32;
 
-// The font and the block.
-pub(crate) fn text_standard(image: &mut [u8])
-    requires { length image.old ≡ 65536 }
-{
-    put(image, SIGNS_AT, &SIGNS);
-    put(image, LETTERS_AT, &LETTERS);
-    fill(image, BLOCK_AT, 8, 0b111111);
-}
+const NO_GAPS: [u8; 8] = [0b111111; 8];
 
-// The mosaics with gaps between their blocks.
-pub(crate) fn text_alternate(image: &mut [u8])
-    requires { length image.old ≡ 65536 }
-{
-    let mut i = 0;
-    while i < 512 {
-        image[TEXT_MOSAICS + i] = mosaic(i / 8, i % 8) & gaps(i % 8);
-        i += 1;
+// What the gaps between the blocks leave of a mosaic's eight rows.
+const GAPS: [u8; 8] = [
+    0b110110, 0b110110, 0b000000, 0b110110, 0b110110, 0b000000, 0b110110, 0b110110,
+];
+
+impl Image {
+    // The font and the block.
+    pub(crate) fn text_standard(&mut self) {
+        self.put(SIGNS_AT, &SIGNS);
+        self.put(LETTERS_AT, &LETTERS);
+        self.fill(BLOCK_AT, 8, 0b111111);
     }
-}
 
-// The standard set of text mode, slanted.
-pub(crate) fn hires_standard(image: &mut [u8])
-    requires { length image.old ≡ 65536 }
-{
-    let mut i = 0;
-    while i < 1024 {
-        image[HIRES_SET + i] = slanted(image[TEXT_SET + i], i % 8);
-        i += 1;
+    // The mosaics with gaps between their blocks.
+    pub(crate) fn text_alternate(&mut self) {
+        self.mosaics(TEXT_MOSAICS, &GAPS);
     }
-}
 
-// The mosaics without gaps.
-pub(crate) fn hires_alternate(image: &mut [u8])
-    requires { length image.old ≡ 65536 }
-{
-    let mut i = 0;
-    while i < 512 {
-        image[HIRES_MOSAICS + i] = mosaic(i / 8, i % 8);
-        i += 1;
+    // The standard set of text mode, slanted.
+    pub(crate) fn hires_standard(&mut self) {
+        for i in 0..1024 {
+            self.bytes[HIRES_SET + i] = slanted(self.bytes[TEXT_SET + i], i % 8);
+        }
+    }
+
+    // The mosaics without gaps.
+    pub(crate) fn hires_alternate(&mut self) {
+        self.mosaics(HIRES_MOSAICS, &NO_GAPS);
+    }
+
+    // The 64 mosaics, from the address on; each byte keeps what its row's mask has.
+    fn mosaics(&mut self, address: usize, masks: &[u8; 8])
+        requires { address + 512 ≤ 65536 }
+    {
+        for (i, byte) in self.bytes[address..address + 512].iter_mut().enumerate() {
+            *byte = mosaic(i / 8, i % 8) & masks[i % 8];
+        }
     }
 }
 
@@ -87,16 +87,6 @@ fn mosaic(number: usize, row: usize) -> u8
         1 => 0b111000,
         2 => 0b000111,
         _ => 0b111111,
-    }
-}
-
-// What the gaps leave of a mosaic's row.
-fn gaps(row: usize) -> u8
-    ensures { result < 64 }
-{
-    match row {
-        2 | 5 => 0b000000,
-        _ => 0b110110,
     }
 }
 
