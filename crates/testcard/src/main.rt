@@ -6,118 +6,106 @@ mod attributes;
 mod glyphs;
 mod hires;
 mod memory;
+mod row;
 mod sets;
-mod text;
-
-ghost use Rattle.std.specs.Prelude.{◌≤◌, ◌<◌, length};
 
 use attributes::{ALTERNATE, ALTERNATE_DOUBLE, DOUBLE, FLASH, HIRES, INK, INVERSE, PAPER, TEXT};
-use memory::Image;
+use memory::{Image, SPACE};
 use sets::{BLOCK, MOSAIC};
 use std::io;
-use std::io::Write;
-use text::SPACE;
 
 impl Image {
     // Rows 0 and 1 hold the same text, its upper and its lower half. Row 2 numbers the columns.
     fn title(&mut self) {
-        for row in 0..2 {
-            self.write(row, 0, &[PAPER + 4, DOUBLE, INK + 3]);
-            self.write(row, 8, b"TROPFENPFAD ULA TEST CARD");
+        for row in &mut self.screen[0..2] {
+            row.write(0, &[PAPER + 4, DOUBLE, INK + 3]);
+            row.write(8, b"TROPFENPFAD ULA TEST CARD");
         }
-        self.write(2, 0, b"0123456789012345678901234567890123456789");
-    }
-
-    // A caption, and at column 7 the attribute that holds from column 8 on.
-    fn begin_row(&mut self, row: usize, caption: &[u8], byte: u8)
-        requires { (row < 28) × (length caption.now ≤ 7) }
-    {
-        self.write(row, 0, caption);
-        self.attribute(row, 7, byte);
+        self.screen[2].write(0, b"0123456789012345678901234567890123456789");
     }
 
     // Rows 3 to 6: the standard and the alternate set.
     fn text_sets(&mut self) {
-        self.write(3, 0, b"B400    ABCDEFGHIJKLMNOPQRSTUVWXYZ");
-        self.write(4, 0, b"        0123456789  - . / :");
-        self.begin_row(5, b"B800", ALTERNATE);
-        self.codes(5, 8, MOSAIC, 32);
-        self.begin_row(6, b"", ALTERNATE);
-        self.codes(6, 8, MOSAIC + 32, 32);
+        self.screen[3].write(0, b"B400    ABCDEFGHIJKLMNOPQRSTUVWXYZ");
+        self.screen[4].write(0, b"        0123456789  - . / :");
+        self.screen[5].begin(b"B800", ALTERNATE);
+        self.screen[5].codes(8, MOSAIC, 32);
+        self.screen[6].begin(b"", ALTERNATE);
+        self.screen[6].codes(8, MOSAIC + 32, 32);
     }
 
     // Rows 8 to 14. Row 13 is read on line 111 alone, from column 20 on.
     fn hires_captions(&mut self) {
-        self.begin_row(8, b"HIRES", HIRES);
-        self.begin_row(9, b"LINES", HIRES);
-        self.begin_row(10, b"64-95", HIRES);
-        self.begin_row(11, b"1E 1A", HIRES);
-        self.attribute(13, 20, PAPER + 1);
-        self.write(14, 0, b"HIRES KEPT 96-111   1A IN 111 AT COL 19");
+        self.screen[8].begin(b"HIRES", HIRES);
+        self.screen[9].begin(b"LINES", HIRES);
+        self.screen[10].begin(b"64-95", HIRES);
+        self.screen[11].begin(b"1E 1A", HIRES);
+        self.screen[13].attribute(20, PAPER + 1);
+        self.screen[14].write(0, b"HIRES KEPT 96-111   1A IN 111 AT COL 19");
     }
 
     // Rows 15 to 18. The last has the papers again, inverse on their attribute cells too.
     fn colours(&mut self) {
-        self.write(15, 0, b"COLOUR   0   1   2   3   4   5   6   7");
-        self.write(16, 0, b"INK");
-        self.bars(16, INK, BLOCK);
-        self.write(17, 0, b"PAPER");
-        self.bars(17, PAPER, SPACE);
-        self.write(18, 0, b"INVERSE");
-        self.bars(18, INVERSE | PAPER, INVERSE | SPACE);
+        self.screen[15].write(0, b"COLOUR   0   1   2   3   4   5   6   7");
+        self.screen[16].write(0, b"INK");
+        self.screen[16].bars(INK, BLOCK);
+        self.screen[17].write(0, b"PAPER");
+        self.screen[17].bars(PAPER, SPACE);
+        self.screen[18].write(0, b"INVERSE");
+        self.screen[18].bars(INVERSE | PAPER, INVERSE | SPACE);
     }
 
     // Rows 20 and 21: an even row shows the upper half, an odd one the lower half.
     fn double_height(&mut self) {
-        for row in 20..22 {
-            self.attribute(row, 7, DOUBLE);
-            self.write(row, 8, b"DOUBLE HEIGHT");
-            self.attribute(row, 22, ALTERNATE_DOUBLE);
-            self.codes(row, 23, MOSAIC + 47, 17);
+        for row in &mut self.screen[20..22] {
+            row.attribute(7, DOUBLE);
+            row.write(8, b"DOUBLE HEIGHT");
+            row.attribute(22, ALTERNATE_DOUBLE);
+            row.codes(23, MOSAIC + 47, 17);
         }
-        self.write(20, 0, b"DOUBLE");
+        self.screen[20].write(0, b"DOUBLE");
     }
 
     // Row 22 flashes, and row 23 is inverse from its attribute on.
     fn flash_and_inverse(&mut self) {
-        self.begin_row(22, b"FLASH", FLASH);
-        self.write(22, 8, b"16 FRAMES SHOWN 16 HIDDEN");
-        self.begin_row(23, b"BIT 7", INK + 6);
-        self.write(23, 8, b"INK 6 AS 1  PAPER 0 AS 7");
-        self.inverse(23, 7, 33);
+        self.screen[22].begin(b"FLASH", FLASH);
+        self.screen[22].write(8, b"16 FRAMES SHOWN 16 HIDDEN");
+        self.screen[23].begin(b"BIT 7", INK + 6);
+        self.screen[23].write(8, b"INK 6 AS 1  PAPER 0 AS 7");
+        self.screen[23].inverse(7..40);
     }
 
     // Row 25: letters from the standard set at 9800, in hires mode, and again from that at B400.
     fn bottom_standard(&mut self) {
-        self.begin_row(25, b"9800", HIRES);
-        self.write(25, 8, b"ABCDEFGHIJKLMNO");
-        self.attribute(25, 24, TEXT);
-        self.write(25, 25, b"ABCDEFGHIJKLMNO");
+        let row = &mut self.screen[25];
+        row.begin(b"9800", HIRES);
+        row.write(8, b"ABCDEFGHIJKLMNO");
+        row.attribute(24, TEXT);
+        row.write(25, b"ABCDEFGHIJKLMNO");
     }
 
     // Row 26: mosaics from the alternate set at 9C00, and again from that at B800.
     fn bottom_alternate(&mut self) {
-        self.begin_row(26, b"9C00", HIRES);
-        self.attribute(26, 6, ALTERNATE);
-        self.codes(26, 8, MOSAIC + 1, 15);
-        self.attribute(26, 24, TEXT);
-        self.codes(26, 25, MOSAIC + 1, 15);
+        let row = &mut self.screen[26];
+        row.begin(b"9C00", HIRES);
+        row.attribute(6, ALTERNATE);
+        row.codes(8, MOSAIC + 1, 15);
+        row.attribute(24, TEXT);
+        row.codes(25, MOSAIC + 1, 15);
     }
 
     // Row 27, inverse in all its cells.
     fn last_row(&mut self) {
-        self.write(27, 0, b"BF68 TO BFDF   THE FRAME ENDS IN MODE 2 ");
-        self.inverse(27, 0, 40);
+        self.screen[27].write(0, b"BF68 TO BFDF   THE FRAME ENDS IN MODE 2 ");
+        self.screen[27].inverse(0..40);
     }
 }
 
 fn main(rt: HostRuntime) -> io::Result<()> {
-    let mut image = Image { bytes: [0; 65_536] };
-    image.text_standard();
-    image.text_alternate();
-    image.hires_standard();
-    image.hires_alternate();
-    image.clear();
+    let mut image = Image::new();
+    image.draw_font();
+    image.draw_slanted_font();
+    image.draw_mosaics();
     image.title();
     image.text_sets();
     image.hires_captions();
@@ -129,5 +117,5 @@ fn main(rt: HostRuntime) -> io::Result<()> {
     image.bottom_standard();
     image.bottom_alternate();
     image.last_row();
-    rt.stdout().write_all(&image.bytes)
+    image.write_to(&mut rt.stdout())
 }
