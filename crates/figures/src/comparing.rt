@@ -6,24 +6,17 @@ use compare::LISTED_CELLS;
 use machine::{FRAME_LENGTH, LINES};
 use std::io::{Print, Result};
 
-// On the mean so many of 65,536 pixels differ.
+// Of each pair, on the mean so many of 65,536 pixels differ.
+const LIMITS: [u64; 8] = [0, 1, 8, 64, 512, 4_096, 32_768, 65_536];
+
 pub(crate) fn pairs(out: &impl Print) -> Result<()> {
-    for (number, limit) in [
-        (0, 0),
-        (1, 1),
-        (2, 8),
-        (3, 64),
-        (4, 512),
-        (5, 4_096),
-        (6, 32_768),
-        (7, 65_536),
-    ] {
-        pair(out, number, limit)?;
+    for (number, limit) in LIMITS.iter().enumerate() {
+        pair(out, number as u8, *limit)?;
     }
     Ok(())
 }
 
-// The lists hold something else before.
+// Both lists hold something else before.
 fn pair(out: &impl Print, number: u8, limit: u64) -> Result<()> {
     let mut first = [0; FRAME_LENGTH];
     generated::fill(&mut first, Kind::Random, mixing::seed(number));

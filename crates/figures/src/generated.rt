@@ -62,7 +62,7 @@ impl Sample {
         }
     }
 
-    // Of the counters: the last before ink is hidden, the first after it, and both ends.
+    // The counter is either end, the last before ink is hidden, or the first after it.
     pub(crate) fn state(self) -> State {
         let counter = match self.number / 32 % 4 {
             0 => 0,
