@@ -1,7 +1,7 @@
 // Comparisons of generated frames, from equal ones to such as differ everywhere, and of wrong lengths.
 use crate::generated::Kind;
+use crate::mixing;
 use crate::mixing::Digest;
-use crate::{generated, mixing};
 use compare::LISTED_CELLS;
 use machine::{FRAME_LENGTH, LINES};
 use std::io::{Print, Result};
@@ -19,7 +19,7 @@ pub(crate) fn pairs(out: &impl Print) -> Result<()> {
 // Both lists hold something else before.
 fn pair(out: &impl Print, number: u8, limit: u64) -> Result<()> {
     let mut first = [0; FRAME_LENGTH];
-    generated::fill(&mut first, Kind::Random, mixing::seed(number));
+    Kind::Random.fill(&mut first, mixing::seed(number));
     let mut second = first;
     change(&mut second, mixing::seed(number), limit);
     let mut counts = [7; LINES];

@@ -16,37 +16,9 @@ struct Tally {
 
 pub(crate) fn settings(out: &impl Print) -> Result<()> {
     without_controller(out, PROFILE_48K)?;
-    microdisc(out)?;
-    jasmin(out)
-}
-
-// The 16K machine has no other setting.
-pub(crate) fn without_controller(out: &impl Print, profile: u8) -> Result<()> {
-    for (first, second) in [(0, 0), (255, 255)] {
-        let latches = Latches {
-            kind: KIND_NONE,
-            first,
-            second,
-        };
-        setting(out, profile, latches)?;
-    }
-    Ok(())
-}
-
-fn microdisc(out: &impl Print) -> Result<()> {
-    for (first, second) in [(0, 0), (2, 0), (128, 0), (130, 0), (253, 0), (125, 255)] {
-        let latches = Latches {
-            kind: KIND_MICRODISC,
-            first,
-            second,
-        };
-        setting(out, PROFILE_48K, latches)?;
-    }
-    Ok(())
-}
-
-fn jasmin(out: &impl Print) -> Result<()> {
-    for (first, second) in [
+    let microdisc = [(0, 0), (2, 0), (128, 0), (130, 0), (253, 0), (125, 255)];
+    controller(out, PROFILE_48K, KIND_MICRODISC, &microdisc)?;
+    let jasmin = [
         (0, 0),
         (1, 0),
         (0, 1),
@@ -54,13 +26,24 @@ fn jasmin(out: &impl Print) -> Result<()> {
         (254, 254),
         (255, 254),
         (254, 255),
-    ] {
+    ];
+    controller(out, PROFILE_48K, KIND_JASMIN, &jasmin)
+}
+
+// The 16K machine has no other setting.
+pub(crate) fn without_controller(out: &impl Print, profile: u8) -> Result<()> {
+    controller(out, profile, KIND_NONE, &[(0, 0), (255, 255)])
+}
+
+// A setting for each pair of latch values.
+fn controller(out: &impl Print, profile: u8, kind: u8, values: &[(u8, u8)]) -> Result<()> {
+    for (first, second) in values {
         let latches = Latches {
-            kind: KIND_JASMIN,
-            first,
-            second,
+            kind,
+            first: *first,
+            second: *second,
         };
-        setting(out, PROFILE_48K, latches)?;
+        setting(out, profile, latches)?;
     }
     Ok(())
 }

@@ -6,6 +6,7 @@ use machine::{FRAME_LENGTH, IMAGE_LENGTH};
 use std::io::{Print, Result};
 use video::State;
 
+// In the order of the numbers that are printed, 0 to 3.
 #[derive(Clone, Copy)]
 pub(crate) enum Kind {
     Random,
@@ -78,19 +79,19 @@ impl Sample {
     }
 
     pub(crate) fn fill(self, image: &mut [u8]) {
-        fill(image, self.kind(), mixing::seed(self.number));
-    }
-}
-
-pub(crate) fn fill(bytes: &mut [u8], kind: Kind, seed: u64) {
-    let mut x = seed;
-    for byte in bytes.iter_mut() {
-        x = mixing::step(x);
-        *byte = kind.shaped(x);
+        self.kind().fill(image, mixing::seed(self.number));
     }
 }
 
 impl Kind {
+    pub(crate) fn fill(self, bytes: &mut [u8], seed: u64) {
+        let mut x = seed;
+        for byte in bytes.iter_mut() {
+            x = mixing::step(x);
+            *byte = self.shaped(x);
+        }
+    }
+
     // A byte of this kind, made from two bytes of a number of the generator.
     fn shaped(self, x: u64) -> u8 {
         let [_, _, _, _, byte, chance, _, _] = x.to_le_bytes();

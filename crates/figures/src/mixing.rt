@@ -43,11 +43,9 @@ impl Digest {
     }
 
     pub(crate) fn of<T: Digested>(items: &[T]) -> Self {
-        let mut digest = Digest::new();
-        for item in items {
-            digest = item.add_to(digest);
-        }
-        digest
+        items
+            .iter()
+            .fold(Digest::new(), |digest, item| item.add_to(digest))
     }
 }
 

@@ -2,7 +2,7 @@
 ghost use Rattle.std.specs.Prelude.{◌<◌, ◌≤◌};
 
 use crate::generated::Kind;
-use crate::{comparing, generated, mixing};
+use crate::{comparing, mixing};
 use machine::LINE_LENGTH;
 use slips::Slip;
 use std::io::{Print, Result};
@@ -26,9 +26,9 @@ fn moved(out: &impl Print, number: u8) -> Result<()>
     requires { number < 25 }
 {
     let mut reference = [0; LINE_LENGTH];
-    generated::fill(&mut reference, Kind::Random, mixing::seed(number));
+    Kind::Random.fill(&mut reference, mixing::seed(number));
     let mut grabbed = [0; LINE_LENGTH];
-    generated::fill(&mut grabbed, Kind::Random, mixing::seed(number + MOVES));
+    Kind::Random.fill(&mut grabbed, mixing::seed(number + MOVES));
     shift(&reference, &mut grabbed, number);
     comparing::change(&mut grabbed, mixing::seed(number), CHANGED);
     print!(out; "slip moved {}", number as i8 - FARTHEST as i8)?;
