@@ -45,7 +45,7 @@ pub(crate) fn change(frame: &mut [u8], seed: u64, limit: u64) {
     let mut x = seed;
     for byte in frame.iter_mut() {
         x = mixing::step(x);
-        if x / 0x100_0000_0000 % 65_536 < limit {
+        if (x >> 40) % 65_536 < limit {
             *byte = byte.wrapping_add(1);
         }
     }

@@ -35,7 +35,7 @@ pub(crate) fn without_controller(out: &impl Print, profile: u8) -> Result<()> {
     controller(out, profile, KIND_NONE, &[(0, 0), (255, 255)])
 }
 
-// A setting for each pair of latch values.
+// A setting for each pair of latch values. The kind is a number, as it is in Latches.
 fn controller(out: &impl Print, profile: u8, kind: u8, values: &[(u8, u8)]) -> Result<()> {
     for (first, second) in values {
         let latches = Latches {
