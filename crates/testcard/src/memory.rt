@@ -1,6 +1,7 @@
 // The memory image that the card is written into, in the parts that a picture reads.
 use crate::row::Row;
 use std::io::{Result, Write};
+use std::mem::size_of;
 
 pub(crate) const SPACE: u8 = 0x20;
 
@@ -23,6 +24,9 @@ pub(crate) struct Image {
     // BFE0 to FFFF.
     above: [u8; 0x4020],
 }
+
+// The parts are all the memory, with no gap.
+const _: () = prove!(size_of::<Image>() == 65_536);
 
 impl Image {
     // All bytes are 0, but the screen has spaces: the byte 0 is an attribute, black ink.

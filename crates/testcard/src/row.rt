@@ -10,6 +10,7 @@ pub(crate) struct Row {
     pub(crate) cells: [u8; 40],
 }
 
+// Each method says which columns it takes: a type for columns below 40 would be built at every call, no plainer.
 impl Row {
     // The byte in every cell.
     pub(crate) fn of(byte: u8) -> Self {

@@ -30,7 +30,7 @@ impl Image {
         }
     }
 
-    // Those of text mode have gaps between their blocks, those of hires mode none.
+    // Codes 32 to 95. Those of text mode have gaps between their blocks, those of hires mode none.
     pub(crate) fn draw_mosaics(&mut self) {
         draw_mosaics(&mut self.text_alternate[32..96], GAPS);
         draw_mosaics(&mut self.hires_alternate[32..96], FULL);
@@ -61,6 +61,7 @@ fn mosaic(number: usize, mask: Glyph) -> Glyph {
     ]
 }
 
+// Two blocks beside each other, three pixels each.
 fn blocks(pair: usize) -> u8 {
     match pair {
         0 => 0b000000,
