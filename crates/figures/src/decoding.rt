@@ -2,7 +2,7 @@
 // digest of every target and number.
 use crate::mixing::{Digest, Digested};
 use crate::report::Machine;
-use bus::{Decoded, KIND_JASMIN, KIND_MICRODISC, KIND_NONE, Latches};
+use bus::{Controller, Decoded, Latches};
 use machine::PROFILE_48K;
 use std::io::{Print, Result};
 
@@ -17,7 +17,7 @@ struct Tally {
 pub(crate) fn settings(out: &impl Print) -> Result<()> {
     without_controller(out, PROFILE_48K)?;
     let microdisc = [(0, 0), (2, 0), (128, 0), (130, 0), (253, 0), (125, 255)];
-    controller(out, PROFILE_48K, KIND_MICRODISC, &microdisc)?;
+    with_controller(out, PROFILE_48K, Controller::Microdisc, &microdisc)?;
     let jasmin = [
         (0, 0),
         (1, 0),
@@ -27,19 +27,24 @@ pub(crate) fn settings(out: &impl Print) -> Result<()> {
         (255, 254),
         (254, 255),
     ];
-    controller(out, PROFILE_48K, KIND_JASMIN, &jasmin)
+    with_controller(out, PROFILE_48K, Controller::Jasmin, &jasmin)
 }
 
 // The 16K machine has no other setting.
 pub(crate) fn without_controller(out: &impl Print, profile: u8) -> Result<()> {
-    controller(out, profile, KIND_NONE, &[(0, 0), (255, 255)])
+    with_controller(out, profile, Controller::None, &[(0, 0), (255, 255)])
 }
 
-// A setting for each pair of latch values. The kind is a number, as it is in Latches.
-fn controller(out: &impl Print, profile: u8, kind: u8, values: &[(u8, u8)]) -> Result<()> {
+// A setting for each pair of latch values.
+fn with_controller(
+    out: &impl Print,
+    profile: u8,
+    controller: Controller,
+    values: &[(u8, u8)],
+) -> Result<()> {
     for (first, second) in values {
         let latches = Latches {
-            kind,
+            kind: controller as u8,
             first: *first,
             second: *second,
         };
