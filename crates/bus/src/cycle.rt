@@ -3,7 +3,7 @@ ghost use Rattle.std.specs.Prelude.{◌≡◌};
 ghost use Rattle.bus.specs.Cycle.{Held, is_memory, fetched, stored, access_refusal, read_answer, write_answer, write_contents, write_latches, written};
 
 use crate::latch::Latches;
-use crate::place::{Place, TARGET_OVERLAY_RAM, TARGET_RAM, reach};
+use crate::place::{Place, Target, reach};
 use machine::{DONE, controller_refusal, kind_refusal, memory_refusal, profile_refusal};
 
 #[repr(C)]
@@ -43,7 +43,7 @@ pub fn read(memory: &[u8], profile: u8, latches: Latches, address: u16) -> Acces
     let byte = fetch(memory, reached);
     Access {
         status,
-        target: reached.target,
+        target: reached.target.number(),
         number: reached.number,
         byte,
     }
@@ -69,7 +69,7 @@ pub fn write(memory: &mut [u8], profile: u8, latches: Latches, address: u16, byt
     let after = latches.after_write(address, byte);
     Written {
         status,
-        target: reached.target,
+        target: reached.target.number(),
         number: reached.number,
         byte: 0,
         latches: after,
@@ -108,5 +108,5 @@ fn store(memory: &mut [u8], reached: Place, byte: u8)
 fn is_memory(reached: Place) -> bool
     ensures { result ≡ is_memory reached }
 {
-    (reached.target == TARGET_RAM) | (reached.target == TARGET_OVERLAY_RAM)
+    matches!(reached.target, Target::Ram | Target::OverlayRam)
 }

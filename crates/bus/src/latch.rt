@@ -1,12 +1,14 @@
 // The controller kind and its two latch bytes.
-ghost use Rattle.std.specs.Prelude.{◌≡◌, cond};
-ghost use Rattle.bus.specs.Latch.{fresh_latches, is_first_latch, is_second_latch, latches_after};
+ghost use Rattle.std.specs.Prelude.{◌≡◌};
+ghost use Rattle.bus.specs.Latch.{fresh_latches, controller_of, latches_after};
 
-use machine::KIND_NONE;
-
-pub const KIND_MICRODISC: u8 = 1;
-
-pub const KIND_JASMIN: u8 = 2;
+// The controller of a machine, by its kind in the latch record.
+#[derive(Clone, Copy, Debug, PartialEq, Eq)]
+pub enum Controller {
+    None = 0,
+    Microdisc = 1,
+    Jasmin = 2,
+}
 
 // Where a write sets a latch.
 const MICRODISC_LATCH: u16 = 0x0314;
@@ -29,43 +31,42 @@ pub fn fresh_latches() -> Latches
     ensures { result ≡ fresh_latches }
 {
     Latches {
-        kind: KIND_NONE,
+        kind: Controller::None as u8,
         first: 0,
         second: 0,
     }
 }
 
 impl Latches {
+    // Latches of a kind above 2 count as those of no controller; no access is made with them.
+    pub(crate) fn controller(self) -> Controller
+        ensures { result ≡ controller_of self.kind }
+    {
+        if self.kind == Controller::Microdisc as u8 {
+            Controller::Microdisc
+        } else if self.kind == Controller::Jasmin as u8 {
+            Controller::Jasmin
+        } else {
+            Controller::None
+        }
+    }
+
     // The latches after a write, from the next access on.
     pub(crate) fn after_write(self, address: u16, byte: u8) -> Self
         ensures { result ≡ latches_after self address byte }
     {
-        let kind = self.kind;
-        let first = byte_after(is_first_latch(kind, address), byte, self.first);
-        let second = byte_after(is_second_latch(kind, address), byte, self.second);
-        Latches {
-            kind,
-            first,
-            second,
+        match (self.controller(), address) {
+            (Controller::Microdisc, MICRODISC_LATCH) | (Controller::Jasmin, JASMIN_FIRST_LATCH) => {
+                Latches {
+                    first: byte,
+                    ..self
+                }
+            }
+            (Controller::Jasmin, JASMIN_SECOND_LATCH) => Latches {
+                second: byte,
+                ..self
+            },
+            _ => self,
         }
     }
-}
-
-fn is_first_latch(kind: u8, address: u16) -> bool
-    ensures { result ≡ is_first_latch kind address }
-{
-    ((kind == KIND_MICRODISC) & (address == MICRODISC_LATCH))
-        | ((kind == KIND_JASMIN) & (address == JASMIN_FIRST_LATCH))
-}
-
-fn is_second_latch(kind: u8, address: u16) -> bool
-    ensures { result ≡ is_second_latch kind address }
-{
-    (kind == KIND_JASMIN) & (address == JASMIN_SECOND_LATCH)
-}
-
-fn byte_after(sets: bool, byte: u8, before: u8) -> u8
-    ensures { result ≡ cond sets byte before }
-{
-    if sets { byte } else { before }
 }

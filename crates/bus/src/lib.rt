@@ -8,9 +8,5 @@ mod place;
 
 pub use cycle::{Access, Written, read, write};
 pub use in_place::write_in_place;
-pub use latch::{KIND_JASMIN, KIND_MICRODISC, Latches, fresh_latches};
-pub use machine::KIND_NONE;
-pub use place::{
-    Decoded, TARGET_BASIC_ROM, TARGET_BOOT_EPROM, TARGET_CONTROLLER, TARGET_OVERLAY_RAM,
-    TARGET_RAM, TARGET_UNASSIGNED, TARGET_VIA, decode,
-};
+pub use latch::{Controller, Latches, fresh_latches};
+pub use place::{Decoded, Target, decode};

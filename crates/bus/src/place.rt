@@ -1,24 +1,22 @@
 // The address decode: a target, and the number of the byte or register that it selects there.
 ghost use Rattle.std.specs.Prelude.{◌≡◌, ◌≤◌, ◌<◌};
 ghost use Rattle.machine.specs.Bits.{bit};
-ghost use Rattle.bus.specs.Place.{ram, via, controller, basic_rom, overlay_ram, boot_eprom, unassigned, without_controller, microdisc_upper, with_microdisc, jasmin_upper, with_jasmin, place, decode_refusal, decode_answer};
+ghost use Rattle.bus.specs.Place.{target_number, ram, via, controller, basic_rom, overlay_ram, boot_eprom, unassigned, without_controller, microdisc_upper, with_microdisc, jasmin_upper, with_jasmin, place, decode_refusal, decode_answer};
 
-use crate::latch::{KIND_JASMIN, KIND_MICRODISC, Latches};
+use crate::latch::{Controller, Latches};
 use machine::{DONE, controller_refusal, fold, kind_refusal, profile_refusal};
 
-pub const TARGET_RAM: u8 = 0;
-
-pub const TARGET_VIA: u8 = 1;
-
-pub const TARGET_CONTROLLER: u8 = 2;
-
-pub const TARGET_BASIC_ROM: u8 = 3;
-
-pub const TARGET_OVERLAY_RAM: u8 = 4;
-
-pub const TARGET_BOOT_EPROM: u8 = 5;
-
-pub const TARGET_UNASSIGNED: u8 = 6;
+// What an address reaches, by its number in a C record.
+#[derive(Clone, Copy, Debug, PartialEq, Eq)]
+pub enum Target {
+    Ram = 0,
+    Via = 1,
+    Controller = 2,
+    BasicRom = 3,
+    OverlayRam = 4,
+    BootEprom = 5,
+    Unassigned = 6,
+}
 
 // Page 3 holds the registers; ROM, EPROM and overlay RAM share the upper 16K.
 const PAGE_3: u16 = 0x0300;
@@ -49,9 +47,17 @@ pub struct Decoded {
     pub number: u16,
 }
 
+impl Target {
+    pub(crate) fn number(self) -> u8
+        ensures { result ≡ target_number self }
+    {
+        self as u8
+    }
+}
+
 #[derive(Clone, Copy)]
 pub(crate) struct Place {
-    pub target: u8,
+    pub target: Target,
     pub number: u16,
 }
 
@@ -70,7 +76,7 @@ pub fn decode(profile: u8, latches: Latches, address: u16) -> Decoded
     let reached = reach(profile, latches, address);
     Decoded {
         status,
-        target: reached.target,
+        target: reached.target.number(),
         number: reached.number,
     }
 }
@@ -82,14 +88,14 @@ fn decode_refusal(profile: u8, kind: u8) -> u8
     profile_refusal(profile, wrong_controller)
 }
 
+#[tactic(auto, unfolding(crate::specs::Place::place))]
 pub(crate) fn reach(profile: u8, latches: Latches, address: u16) -> Place
     ensures { result ≡ place profile latches address }
 {
-    let kind = latches.kind;
-    match kind {
-        KIND_MICRODISC => reach_with_microdisc(profile, latches.first, address),
-        KIND_JASMIN => reach_with_jasmin(profile, latches.first, latches.second, address),
-        _ => reach_without_controller(profile, address),
+    match latches.controller() {
+        Controller::None => reach_without_controller(profile, address),
+        Controller::Microdisc => reach_with_microdisc(profile, latches.first, address),
+        Controller::Jasmin => reach_with_jasmin(profile, latches.first, latches.second, address),
     }
 }
 
@@ -166,7 +172,7 @@ fn to_ram(profile: u8, address: u16) -> Place
     ensures { result ≡ ram profile address }
 {
     Place {
-        target: TARGET_RAM,
+        target: Target::Ram,
         number: fold(profile, address as usize) as u16,
     }
 }
@@ -175,7 +181,7 @@ fn to_via(address: u16) -> Place
     ensures { result ≡ via address }
 {
     Place {
-        target: TARGET_VIA,
+        target: Target::Via,
         number: address % VIA_REGISTERS,
     }
 }
@@ -185,7 +191,7 @@ fn to_controller(address: u16) -> Place
     ensures { result ≡ controller address }
 {
     Place {
-        target: TARGET_CONTROLLER,
+        target: Target::Controller,
         number: address - PAGE_3,
     }
 }
@@ -195,7 +201,7 @@ fn to_unassigned(address: u16) -> Place
     ensures { result ≡ unassigned address }
 {
     Place {
-        target: TARGET_UNASSIGNED,
+        target: Target::Unassigned,
         number: address - PAGE_3,
     }
 }
@@ -205,7 +211,7 @@ fn to_basic_rom(address: u16) -> Place
     ensures { result ≡ basic_rom address }
 {
     Place {
-        target: TARGET_BASIC_ROM,
+        target: Target::BasicRom,
         number: address - UPPER,
     }
 }
@@ -214,7 +220,7 @@ fn to_overlay_ram(address: u16) -> Place
     ensures { result ≡ overlay_ram address }
 {
     Place {
-        target: TARGET_OVERLAY_RAM,
+        target: Target::OverlayRam,
         number: address,
     }
 }
@@ -224,7 +230,7 @@ fn to_boot_eprom(start: u16, address: u16) -> Place
     ensures { result ≡ boot_eprom start address }
 {
     Place {
-        target: TARGET_BOOT_EPROM,
+        target: Target::BootEprom,
         number: address - start,
     }
 }

@@ -1,3 +1,2 @@
 pub mod Advance
 pub mod Laws
-pub mod Walks

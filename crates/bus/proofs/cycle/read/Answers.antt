@@ -20,4 +20,4 @@ fetch-byte-requires c =
 pub returns : goal.returns
 unfolding read_answer
 returns c =
-    simp (c.fetch-byte.ensures, c.reach-reached.ensures, ← c.access_refusal-status.ensures, c.if-status-ne-DONE.false)
+    simp (c.fetch-byte.ensures, c.reach-reached.ensures, ← c.access_refusal-status.ensures, c.if-status-ne-DONE.false, c.number.ensures)

@@ -32,6 +32,7 @@ returns-clause-value c =
       c.reach-reached.ensures,
       ← c.access_refusal-status.ensures,
       c.if-status-ne-DONE.false,
+      c.number.ensures,
     )
 
 pub returns-clause-memory_after : goal.returns-clause-memory_after

@@ -10,4 +10,4 @@ returns-then-status-ne-DONE c = simp (← c.decode_refusal-status.ensures, refus
 
 pub returns : goal.returns
 unfolding decode_answer
-returns c = simp (c.reach-reached.ensures, ← c.decode_refusal-status.ensures, c.if-status-ne-DONE.false)
+returns c = simp (c.reach-reached.ensures, ← c.decode_refusal-status.ensures, c.if-status-ne-DONE.false, c.number.ensures)
