@@ -1,7 +1,7 @@
 // The address decode: a target, and the number of the byte or register that it selects there.
-ghost use Rattle.std.specs.Prelude.{◌≡◌, ◌≤◌, ◌<◌};
+ghost use Rattle.std.specs.Prelude.{◌≡◌, ◌-◌, ◌≤◌, ◌<◌};
 ghost use Rattle.machine.specs.Bits.{bit};
-ghost use Rattle.bus.specs.Place.{target_number, ram, via, controller, basic_rom, overlay_ram, boot_eprom, unassigned, without_controller, microdisc_upper, with_microdisc, jasmin_upper, with_jasmin, place, decode_refusal, decode_answer};
+ghost use Rattle.bus.specs.Place.{target_number, ram, via, place, decode_refusal, decode_answer};
 
 use crate::latch::{Controller, Latches};
 use machine::{DONE, controller_refusal, fold, kind_refusal, profile_refusal};
@@ -21,7 +21,7 @@ pub enum Target {
 // Page 3 holds the registers; ROM, EPROM and overlay RAM share the upper 16K.
 const PAGE_3: u16 = 0x0300;
 
-const UPPER: u16 = 0xC000;
+const BASIC_START: u16 = 0xC000;
 
 const VIA_REGISTERS: u16 = 16;
 
@@ -92,71 +92,34 @@ fn decode_refusal(profile: u8, kind: u8) -> u8
 pub(crate) fn reach(profile: u8, latches: Latches, address: u16) -> Place
     ensures { result ≡ place profile latches address }
 {
-    match latches.controller() {
-        Controller::None => reach_without_controller(profile, address),
-        Controller::Microdisc => reach_with_microdisc(profile, latches.first, address),
-        Controller::Jasmin => reach_with_jasmin(profile, latches.first, latches.second, address),
-    }
-}
-
-fn reach_without_controller(profile: u8, address: u16) -> Place
-    ensures { result ≡ without_controller profile address }
-{
-    match address {
-        0x0300..=0x03FF => to_via(address),
-        0xC000..=0xFFFF => to_basic_rom(address),
-        _ => to_ram(profile, address),
-    }
-}
-
-fn reach_with_microdisc(profile: u8, latch: u8, address: u16) -> Place
-    ensures { result ≡ with_microdisc profile latch address }
-{
-    match address {
-        0x0310..=0x0314 | 0x0318 => to_controller(address),
-        0x0310..=0x031F => to_unassigned(address),
-        0x0300..=0x03FF => to_via(address),
-        0xC000..=0xDFFF => microdisc_upper(latch, address, to_overlay_ram(address)),
-        0xE000..=0xFFFF => microdisc_upper(latch, address, to_boot_eprom(EPROM_START_8K, address)),
-        _ => to_ram(profile, address),
-    }
-}
-
-fn reach_with_jasmin(profile: u8, first: u8, second: u8, address: u16) -> Place
-    ensures { result ≡ with_jasmin profile first second address }
-{
-    match address {
-        0x03F4..=0x03FF => to_controller(address),
-        0x0300..=0x03FF => to_via(address),
-        0xC000..=0xFFFF => jasmin_upper(first, second, address),
-        _ => to_ram(profile, address),
-    }
-}
-
-// `eprom` is the place that the address reaches where the EPROM is selected.
-fn microdisc_upper(latch: u8, address: u16, eprom: Place) -> Place
-    requires { 0xC000 ≤ address }
-    ensures { result ≡ microdisc_upper latch address eprom }
-{
-    if is_set(MICRODISC_BASIC, latch) {
-        to_basic_rom(address)
-    } else if is_set(MICRODISC_OVERLAY, latch) {
-        to_overlay_ram(address)
-    } else {
-        eprom
-    }
-}
-
-fn jasmin_upper(first: u8, second: u8, address: u16) -> Place
-    requires { 0xC000 ≤ address }
-    ensures { result ≡ jasmin_upper first second address }
-{
-    if is_set(JASMIN_OVERLAY, first) {
-        to_overlay_ram(address)
-    } else if is_set(JASMIN_EPROM, second) {
-        to_boot_eprom(EPROM_START_16K, address)
-    } else {
-        to_basic_rom(address)
+    match (latches.controller(), address) {
+        (Controller::Microdisc, 0x0310..=0x0314 | 0x0318) => {
+            Place::counted(Target::Controller, PAGE_3, address)
+        }
+        (Controller::Microdisc, 0x0310..=0x031F) => {
+            Place::counted(Target::Unassigned, PAGE_3, address)
+        }
+        (Controller::Jasmin, 0x03F4..=0x03FF) => {
+            Place::counted(Target::Controller, PAGE_3, address)
+        }
+        (_, 0x0300..=0x03FF) => Place::via(address),
+        (Controller::Microdisc, 0xC000..=0xFFFF) if is_set(MICRODISC_BASIC, latches.first) => {
+            Place::counted(Target::BasicRom, BASIC_START, address)
+        }
+        (Controller::Microdisc, 0xE000..=0xFFFF) if !is_set(MICRODISC_OVERLAY, latches.first) => {
+            Place::counted(Target::BootEprom, EPROM_START_8K, address)
+        }
+        (Controller::Microdisc, 0xC000..=0xFFFF) => {
+            Place::counted(Target::OverlayRam, 0, address)
+        }
+        (Controller::Jasmin, 0xC000..=0xFFFF) if is_set(JASMIN_OVERLAY, latches.first) => {
+            Place::counted(Target::OverlayRam, 0, address)
+        }
+        (Controller::Jasmin, 0xC000..=0xFFFF) if is_set(JASMIN_EPROM, latches.second) => {
+            Place::counted(Target::BootEprom, EPROM_START_16K, address)
+        }
+        (_, 0xC000..=0xFFFF) => Place::counted(Target::BasicRom, BASIC_START, address),
+        _ => Place::ram(profile, address),
     }
 }
 
@@ -167,70 +130,34 @@ fn is_set(weight: u8, latch: u8) -> bool
     latch / weight % 2 == 1
 }
 
-// Only RAM is mirrored: no other target's number is folded.
-fn to_ram(profile: u8, address: u16) -> Place
-    ensures { result ≡ ram profile address }
-{
-    Place {
-        target: Target::Ram,
-        number: fold(profile, address as usize) as u16,
+impl Place {
+    // Only RAM is mirrored: no other target's number is folded.
+    fn ram(profile: u8, address: u16) -> Self
+        ensures { result ≡ ram profile address }
+    {
+        Place {
+            target: Target::Ram,
+            number: fold(profile, address as usize) as u16,
+        }
     }
-}
 
-fn to_via(address: u16) -> Place
-    ensures { result ≡ via address }
-{
-    Place {
-        target: Target::Via,
-        number: address % VIA_REGISTERS,
+    fn via(address: u16) -> Self
+        ensures { result ≡ via address }
+    {
+        Place {
+            target: Target::Via,
+            number: address % VIA_REGISTERS,
+        }
     }
-}
 
-fn to_controller(address: u16) -> Place
-    requires { 0x300 ≤ address }
-    ensures { result ≡ controller address }
-{
-    Place {
-        target: Target::Controller,
-        number: address - PAGE_3,
-    }
-}
-
-fn to_unassigned(address: u16) -> Place
-    requires { 0x300 ≤ address }
-    ensures { result ≡ unassigned address }
-{
-    Place {
-        target: Target::Unassigned,
-        number: address - PAGE_3,
-    }
-}
-
-fn to_basic_rom(address: u16) -> Place
-    requires { 0xC000 ≤ address }
-    ensures { result ≡ basic_rom address }
-{
-    Place {
-        target: Target::BasicRom,
-        number: address - UPPER,
-    }
-}
-
-fn to_overlay_ram(address: u16) -> Place
-    ensures { result ≡ overlay_ram address }
-{
-    Place {
-        target: Target::OverlayRam,
-        number: address,
-    }
-}
-
-fn to_boot_eprom(start: u16, address: u16) -> Place
-    requires { start ≤ address }
-    ensures { result ≡ boot_eprom start address }
-{
-    Place {
-        target: Target::BootEprom,
-        number: address - start,
+    // The number counts from the target's first address.
+    fn counted(target: Target, start: u16, address: u16) -> Self
+        requires { start ≤ address }
+        ensures { result ≡ record { target = target; number = address - start } }
+    {
+        Place {
+            target,
+            number: address - start,
+        }
     }
 }
