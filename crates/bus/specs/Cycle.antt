@@ -26,15 +26,14 @@ fetched memory reached = cond (is_memory reached) (byte_at memory reached.number
 abbrev pub stored : Image → Place → ℕ → Image
 stored memory reached byte = cond (is_memory reached) (with_byte memory reached.number byte) memory
 
--- refusals 12, 1, 7, 13, by the profile, the length of the memory and the kind
-abbrev pub access_refusal : ℕ → ℕ → ℕ → ℕ
-access_refusal profile size kind =
-    refusal (profile_check profile ∷ memory_check profile size ∷ kind_check kind ∷ controller_check profile kind ∷ [])
-
--- the checks of an access, as a list that a call of many accesses has before its own
+-- the checks of an access, which a call of many accesses has before its own
 abbrev pub access_checks : ℕ → ℕ → ℕ → List Check
 access_checks profile size kind =
     profile_check profile ∷ memory_check profile size ∷ kind_check kind ∷ controller_check profile kind ∷ []
+
+-- refusals 12, 1, 7, 13, by the profile, the length of the memory and the kind
+abbrev pub access_refusal : ℕ → ℕ → ℕ → ℕ
+access_refusal profile size kind = refusal (access_checks profile size kind)
 
 -- what every access answers: target, number and byte, each 0 where it is refused
 abbrev pub access_answer : ℕ → Place → ℕ → Access

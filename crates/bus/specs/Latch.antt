@@ -1,17 +1,11 @@
 -- The latch record, and which writes change it.
 -- Assumes nothing.
 use Rattle.std.specs.Prelude.{ℕ, Bool, cond, ◌&&◌, ◌||◌, eqb}
-use Rattle.bus.specs.declared.latch.Controller.{Controller}
-use Rattle.bus.specs.declared.latch.Controller.TheVariants.{None, Microdisc, Jasmin}
 use Rattle.bus.specs.declared.latch.Latches.{Latches}
 
 -- fresh latches: no controller, and 0 in both bytes
 abbrev pub fresh_latches : Latches
 fresh_latches = record { kind = 0; first = 0; second = 0 }
-
--- the controller of a kind: 1 is the Microdisc, 2 the Jasmin, any other number none
-abbrev pub controller_of : ℕ → Controller
-controller_of kind = cond (eqb kind 1) Microdisc (cond (eqb kind 2) Jasmin None)
 
 -- the first latch is written at 0314 under the Microdisc, at 03FA under the Jasmin
 abbrev pub is_first_latch : ℕ → ℕ → Bool

@@ -1,14 +1,9 @@
 // The controller kind and its two latch bytes.
 ghost use Rattle.std.specs.Prelude.{◌≡◌};
-ghost use Rattle.bus.specs.Latch.{fresh_latches, controller_of, latches_after};
+ghost use Rattle.machine.specs.Controller.{kind_of};
+ghost use Rattle.bus.specs.Latch.{fresh_latches, latches_after};
 
-// The controller of a machine, by its kind in the latch record.
-#[derive(Clone, Copy, Debug, PartialEq, Eq)]
-pub enum Controller {
-    None = 0,
-    Microdisc = 1,
-    Jasmin = 2,
-}
+use machine::Controller;
 
 // Where a write sets a latch.
 const MICRODISC_LATCH: u16 = 0x0314;
@@ -38,24 +33,12 @@ pub fn fresh_latches() -> Latches
 }
 
 impl Latches {
-    // Latches of a kind above 2 count as those of no controller; no access is made with them.
-    pub(crate) fn controller(self) -> Controller
-        ensures { result ≡ controller_of self.kind }
-    {
-        if self.kind == Controller::Microdisc as u8 {
-            Controller::Microdisc
-        } else if self.kind == Controller::Jasmin as u8 {
-            Controller::Jasmin
-        } else {
-            Controller::None
-        }
-    }
-
     // The latches after a write, from the next access on.
-    pub(crate) fn after_write(self, address: u16, byte: u8) -> Self
+    pub(crate) fn after_write(self, controller: Controller, address: u16, byte: u8) -> Self
+        requires { kind_of controller ≡ self.kind }
         ensures { result ≡ latches_after self address byte }
     {
-        match (self.controller(), address) {
+        match (controller, address) {
             (Controller::Microdisc, MICRODISC_LATCH) | (Controller::Jasmin, JASMIN_FIRST_LATCH) => {
                 Latches {
                     first: byte,

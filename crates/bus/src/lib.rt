@@ -2,11 +2,10 @@
 #![tactic(auto)]
 
 mod cycle;
-mod in_place;
 mod latch;
 mod place;
 
-pub use cycle::{Access, Written, read, write};
-pub use in_place::write_in_place;
-pub use latch::{Controller, Latches, fresh_latches};
+pub use cycle::{Access, Written, check_access, read, write, write_in_place};
+pub use latch::{Latches, fresh_latches};
+pub use machine::Controller;
 pub use place::{Decoded, Target, decode};

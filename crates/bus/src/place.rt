@@ -1,22 +1,11 @@
 // The address decode: a target, and the number of the byte or register that it selects there.
-ghost use Rattle.std.specs.Prelude.{◌≡◌, ◌-◌, ◌≤◌, ◌<◌};
-ghost use Rattle.machine.specs.Bits.{bit};
+ghost use Rattle.std.specs.Prelude.{◌≡◌, ◌-◌, ◌≤◌, [], ◌∷◌, IfOk};
+ghost use Rattle.machine.specs.Controller.{kind_of};
+ghost use Rattle.machine.specs.Refusal.{status_of, refusal, kind_check, controller_check};
 ghost use Rattle.bus.specs.Place.{target_number, ram, via, place, decode_refusal, decode_answer};
 
-use crate::latch::{Controller, Latches};
-use machine::{DONE, controller_refusal, fold, kind_refusal, profile_refusal};
-
-// What an address reaches, by its number in a C record.
-#[derive(Clone, Copy, Debug, PartialEq, Eq)]
-pub enum Target {
-    Ram = 0,
-    Via = 1,
-    Controller = 2,
-    BasicRom = 3,
-    OverlayRam = 4,
-    BootEprom = 5,
-    Unassigned = 6,
-}
+use crate::latch::Latches;
+use machine::{Controller, DONE, Refusal, bit, check_controller, check_profile, fold};
 
 // Page 3 holds the registers; ROM, EPROM and overlay RAM share the upper 16K.
 const PAGE_3: u16 = 0x0300;
@@ -31,20 +20,24 @@ const EPROM_START_8K: u16 = 0xE000;
 const EPROM_START_16K: u16 = 0xC000;
 
 // The bits of the latches, by their weights.
-const MICRODISC_BASIC: u8 = 2;
+const MICRODISC_BASIC: u64 = 2;
 
-const MICRODISC_OVERLAY: u8 = 128;
+const MICRODISC_OVERLAY: u64 = 128;
 
-const JASMIN_OVERLAY: u8 = 1;
+const JASMIN_OVERLAY: u64 = 1;
 
-const JASMIN_EPROM: u8 = 1;
+const JASMIN_EPROM: u64 = 1;
 
-#[repr(C)]
-#[derive(Clone, Copy)]
-pub struct Decoded {
-    pub status: u8,
-    pub target: u8,
-    pub number: u16,
+// What an address reaches, by its number in a C record.
+#[derive(Clone, Copy, Debug, PartialEq, Eq)]
+pub enum Target {
+    Ram = 0,
+    Via = 1,
+    Controller = 2,
+    BasicRom = 3,
+    OverlayRam = 4,
+    BootEprom = 5,
+    Unassigned = 6,
 }
 
 impl Target {
@@ -61,38 +54,60 @@ pub(crate) struct Place {
     pub number: u16,
 }
 
+#[repr(C)]
+#[derive(Clone, Copy)]
+pub struct Decoded {
+    pub status: u8,
+    pub target: u8,
+    pub number: u16,
+}
+
 // Which target an address reaches. Refusals 12, 7, 13.
+#[tactic(auto, using(machine::proofs::Refusals::by_number), unfolding(crate::specs::Place::decode_answer))]
 pub fn decode(profile: u8, latches: Latches, address: u16) -> Decoded
     ensures { result ≡ decode_answer profile latches address }
 {
-    let status = decode_refusal(profile, latches.kind);
-    if status != DONE {
-        return Decoded {
-            status,
+    match try_decode(profile, latches, address) {
+        Ok(reached) => Decoded {
+            status: DONE,
+            target: reached.target.number(),
+            number: reached.number,
+        },
+        Err(refusal) => Decoded {
+            status: refusal.number(),
             target: 0,
             number: 0,
-        };
-    }
-    let reached = reach(profile, latches, address);
-    Decoded {
-        status,
-        target: reached.target.number(),
-        number: reached.number,
+        },
     }
 }
 
-fn decode_refusal(profile: u8, kind: u8) -> u8
-    ensures { result ≡ decode_refusal profile kind }
+fn try_decode(profile: u8, latches: Latches, address: u16) -> Result<Place, Refusal>
+    ensures status { status_of result ≡ decode_refusal profile latches.kind }
+    ensures value { IfOk result (λ reached. reached ≡ place profile latches address) }
 {
-    let wrong_controller = kind_refusal(kind, controller_refusal(profile, kind, DONE));
-    profile_refusal(profile, wrong_controller)
+    check_profile(profile)?;
+    let controller = controller_of(profile, latches.kind)?;
+    Ok(reach(profile, controller, latches, address))
+}
+
+// The controller of a machine, by its kind. Refusals 7, 13.
+pub(crate) fn controller_of(profile: u8, kind: u8) -> Result<Controller, Refusal>
+    ensures status { status_of result ≡ refusal (kind_check kind ∷ controller_check profile kind ∷ []) }
+    ensures value { IfOk result (λ controller. kind_of controller ≡ kind) }
+{
+    let controller = Controller::try_from(kind)?;
+    check_controller(profile, kind)?;
+    Ok(controller)
 }
 
 #[tactic(auto, unfolding(crate::specs::Place::place))]
-pub(crate) fn reach(profile: u8, latches: Latches, address: u16) -> Place
+pub(crate) fn reach(profile: u8, controller: Controller, latches: Latches, address: u16) -> Place
+    requires { kind_of controller ≡ latches.kind }
     ensures { result ≡ place profile latches address }
 {
-    match (latches.controller(), address) {
+    let first = latches.first as u64;
+    let second = latches.second as u64;
+    match (controller, address) {
         (Controller::Microdisc, 0x0310..=0x0314 | 0x0318) => {
             Place::counted(Target::Controller, PAGE_3, address)
         }
@@ -103,31 +118,24 @@ pub(crate) fn reach(profile: u8, latches: Latches, address: u16) -> Place
             Place::counted(Target::Controller, PAGE_3, address)
         }
         (_, 0x0300..=0x03FF) => Place::via(address),
-        (Controller::Microdisc, 0xC000..=0xFFFF) if is_set(MICRODISC_BASIC, latches.first) => {
+        (Controller::Microdisc, 0xC000..=0xFFFF) if bit(MICRODISC_BASIC, first) => {
             Place::counted(Target::BasicRom, BASIC_START, address)
         }
-        (Controller::Microdisc, 0xE000..=0xFFFF) if !is_set(MICRODISC_OVERLAY, latches.first) => {
+        (Controller::Microdisc, 0xE000..=0xFFFF) if !bit(MICRODISC_OVERLAY, first) => {
             Place::counted(Target::BootEprom, EPROM_START_8K, address)
         }
         (Controller::Microdisc, 0xC000..=0xFFFF) => {
             Place::counted(Target::OverlayRam, 0, address)
         }
-        (Controller::Jasmin, 0xC000..=0xFFFF) if is_set(JASMIN_OVERLAY, latches.first) => {
+        (Controller::Jasmin, 0xC000..=0xFFFF) if bit(JASMIN_OVERLAY, first) => {
             Place::counted(Target::OverlayRam, 0, address)
         }
-        (Controller::Jasmin, 0xC000..=0xFFFF) if is_set(JASMIN_EPROM, latches.second) => {
+        (Controller::Jasmin, 0xC000..=0xFFFF) if bit(JASMIN_EPROM, second) => {
             Place::counted(Target::BootEprom, EPROM_START_16K, address)
         }
         (_, 0xC000..=0xFFFF) => Place::counted(Target::BasicRom, BASIC_START, address),
         _ => Place::ram(profile, address),
     }
-}
-
-fn is_set(weight: u8, latch: u8) -> bool
-    requires { 0 < weight }
-    ensures { result ≡ bit weight latch }
-{
-    latch / weight % 2 == 1
 }
 
 impl Place {
