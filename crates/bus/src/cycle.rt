@@ -8,6 +8,7 @@ use crate::latch::Latches;
 use crate::place::{Place, Target, controller_of, reach};
 use machine::{Controller, DONE, Refusal, check_image};
 
+// C reads it: status and target are numbers.
 #[repr(C)]
 #[derive(Clone, Copy)]
 pub struct Access {
@@ -18,6 +19,7 @@ pub struct Access {
     pub byte: u8,
 }
 
+// C reads it: the fields of `Access` and the latches in one record.
 #[repr(C)]
 #[derive(Clone, Copy)]
 pub struct Written {

@@ -15,7 +15,7 @@ const JASMIN_SECOND_LATCH: u16 = 0x03FB;
 #[repr(C)]
 #[derive(Clone, Copy)]
 pub struct Latches {
-    // The controller: 0 none, 1 Microdisc, 2 Jasmin.
+    // The controller: 0 none, 1 Microdisc, 2 Jasmin. A number, since C may hand in any.
     pub kind: u8,
     pub first: u8,
     pub second: u8,

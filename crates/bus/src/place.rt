@@ -28,7 +28,7 @@ const JASMIN_OVERLAY: u64 = 1;
 
 const JASMIN_EPROM: u64 = 1;
 
-// What an address reaches, by its number in a C record.
+// What an address reaches, under the number that stands in the records of C.
 #[derive(Clone, Copy, Debug, PartialEq, Eq)]
 pub enum Target {
     Ram = 0,
@@ -54,6 +54,7 @@ pub(crate) struct Place {
     pub number: u16,
 }
 
+// C reads it: status and target are numbers.
 #[repr(C)]
 #[derive(Clone, Copy)]
 pub struct Decoded {
@@ -100,6 +101,7 @@ pub(crate) fn controller_of(profile: u8, kind: u8) -> Result<Controller, Refusal
     Ok(controller)
 }
 
+// Profile, latches and address come one by one, as C hands them over: a struct of them would be made four times and read twice.
 #[tactic(auto, unfolding(crate::specs::Place::place))]
 pub(crate) fn reach(profile: u8, controller: Controller, latches: Latches, address: u16) -> Place
     requires { kind_of controller ≡ latches.kind }

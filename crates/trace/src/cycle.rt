@@ -8,7 +8,7 @@ use bus::{Access, Latches, read, write_in_place};
 #[derive(Clone, Copy)]
 pub struct Cycle {
     pub address: u16,
-    // 0 is a read, any other value a write.
+    // 0 is a read, any other value a write. A number, since C may hand in any.
     pub write: u8,
     // The byte to write.
     pub byte: u8,

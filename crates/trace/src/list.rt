@@ -7,6 +7,7 @@ use crate::cycle::Cycle;
 use bus::{Latches, check_access};
 use machine::{DONE, Refusal, check_trace};
 
+// C reads it: the status is a number.
 #[repr(C)]
 #[derive(Clone, Copy)]
 pub struct Traced {
