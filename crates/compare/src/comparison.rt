@@ -1,5 +1,5 @@
 // What a comparison answers, and what it has found on the way there.
-ghost use Rattle.std.specs.Prelude.{◌≡◌, cond, ◌≤◌, min, max};
+ghost use Rattle.std.specs.Prelude.{◌≡◌};
 ghost use Rattle.compare.specs.Answer.{uncompared};
 ghost use Rattle.compare.specs.Internal.{nothing, Small, reported};
 
@@ -64,35 +64,16 @@ impl Found {
         ensures { result ≡ reported self }
     {
         let empty = self.pixels == 0;
+        let (first_x, first_line) = if empty { (0, 0) } else { (self.left, self.top) };
         Comparison {
             status: DONE,
             empty,
-            first_x: side(empty, self.left) as u8,
+            first_x: first_x as u8,
             last_x: self.right as u8,
-            first_line: side(empty, self.top) as u8,
+            first_line: first_line as u8,
             last_line: self.bottom as u8,
             pixels: self.pixels as u32,
             cells: self.cells as u32,
         }
     }
-}
-
-// Where nothing differs a side of the rectangle is 0. The second clause follows from the first; a side fits a byte by it.
-fn side(empty: bool, n: usize) -> usize
-    ensures value { result ≡ cond empty 0 n }
-    ensures upper_bound { result ≤ n }
-{
-    if empty { 0 } else { n }
-}
-
-pub(crate) fn lower(a: usize, b: usize) -> usize
-    ensures { result ≡ min a b }
-{
-    if a < b { a } else { b }
-}
-
-pub(crate) fn higher(a: usize, b: usize) -> usize
-    ensures { result ≡ max a b }
-{
-    if a < b { b } else { a }
 }

@@ -3,12 +3,11 @@ ghost use Rattle.std.specs.Prelude.{◌≡◌, ◌*◌, ◌≤◌, ◌<◌, leng
 ghost use Rattle.std.proofs.lemmas.List.Edits.{sets};
 ghost use Rattle.machine.specs.Sizes.{columns, lines, line_length};
 ghost use Rattle.compare.specs.Answer.{list_length, compare_refusal, compare_answer, counts_left, cells_left};
-ghost use Rattle.compare.specs.Internal.{AreFrames, line_places, line_listed, found_with, found_in, counts_in, listed_in};
+ghost use Rattle.compare.specs.Internal.{line_places, line_listed, found_with, found_in, counts_in, listed_in};
 
-use crate::LISTED_CELLS;
-use crate::cells::{clear, list_cells};
-use crate::comparison::{Comparison, Found, higher, lower, refused};
-use crate::pixels::{differing_pixels, first_x, last_x};
+use crate::comparison::{Comparison, Found, refused};
+use crate::pixels::Frames;
+use crate::{LISTED_CELLS, NO_CELL};
 use machine::{DONE, FRAME_LENGTH, LINE_LENGTH, LINES, output_refusal};
 
 // Two frames, any byte as a pixel. Refusal 2 for any of the four lengths.
@@ -26,8 +25,8 @@ pub fn compare(
     if status != DONE {
         return refused(status);
     }
-    clear(cells);
-    find(first, second, line_counts, cells).report()
+    cells.fill(NO_CELL);
+    Frames { first, second }.find(line_counts, cells).report()
 }
 
 fn compare_refusal(first: usize, second: usize, line_counts: usize, cells: usize) -> u8
@@ -39,54 +38,44 @@ fn compare_refusal(first: usize, second: usize, line_counts: usize, cells: usize
     output_refusal(FRAME_LENGTH, first, wrong_second)
 }
 
-// All lines, into a list of cells that is clear.
-fn find(first: &[u8], second: &[u8], line_counts: &mut [u16], cells: &mut [u16]) -> Found
-    requires are_frames { AreFrames first.now second.now }
-    requires line_counts_len { length line_counts.old ≡ lines }
-    requires cells_value { cells.old ≡ listed_in first.now second.now 0 }
-    ensures value { result ≡ found_in first.now second.now lines }
-    ensures line_counts_after { line_counts.new ≡ counts_in first.now second.now lines }
-    ensures cells_after { cells.new ≡ listed_in first.now second.now lines }
-{
-    let mut found = Found::nothing();
-    let mut line: usize = 0;
-    while line < LINES {
-        let pixels = differing_pixels(first, second, LINE_LENGTH * line);
-        line_counts[line] = pixels as u16;
-        found = find_line(first, second, line, pixels, found, cells);
-        line += 1;
+impl Frames<'_> {
+    // All lines, into a list of cells that is clear.
+    fn find(self, line_counts: &mut [u16], cells: &mut [u16]) -> Found
+        requires line_counts_len { length line_counts.old ≡ lines }
+        requires cells_value { cells.old ≡ listed_in self.first.now self.second.now 0 }
+        ensures value { result ≡ found_in self.entry.first.now self.entry.second.now lines }
+        ensures line_counts_after { line_counts.new ≡ counts_in self.entry.first.now self.entry.second.now lines }
+        ensures cells_after { cells.new ≡ listed_in self.entry.first.now self.entry.second.now lines }
+    {
+        let mut found = Found::nothing();
+        for line in 0..LINES {
+            let pixels = self.differing_pixels(LINE_LENGTH * line);
+            line_counts[line] = pixels as u16;
+            found = self.find_line(line, pixels, found, cells);
+        }
+        found
     }
-    found
-}
 
-// What a line adds, of which so many pixels differ. Only a line that differs is gone through cell by cell.
-fn find_line(
-    first: &[u8],
-    second: &[u8],
-    line: usize,
-    pixels: u8,
-    before: Found,
-    cells: &mut [u16],
-) -> Found
-    requires are_frames { AreFrames first.now second.now }
-    requires line_lt_lines { line < lines }
-    requires pixels_value { pixels ≡ length (line_places first.now second.now line) }
-    requires left_le_line_length { before.left ≤ line_length }
-    requires pixels_bound { before.pixels ≤ line_length * line }
-    requires cells_bound { before.cells ≤ columns * line }
-    requires cells_len { length cells.old ≡ list_length }
-    ensures value { result ≡ found_with before (line_places first.now second.now line) (line_listed first.now second.now line) }
-    ensures cells_after { cells.new ≡ sets cells.old before.cells (line_listed first.now second.now line) }
-{
-    if pixels == 0 {
-        return before;
-    }
-    Found {
-        left: first_x(first, second, line, before.left),
-        right: last_x(first, second, line, before.right),
-        top: lower(before.top, line),
-        bottom: higher(before.bottom, line),
-        pixels: before.pixels + pixels as usize,
-        cells: list_cells(first, second, line, before.cells, cells),
+    // What a line adds, of which so many pixels differ. Only a line that differs is gone through cell by cell.
+    fn find_line(self, line: usize, pixels: u8, before: Found, cells: &mut [u16]) -> Found
+        requires line_lt_lines { line < lines }
+        requires pixels_value { pixels ≡ length (line_places self.first.now self.second.now line) }
+        requires left_le_line_length { before.left ≤ line_length }
+        requires pixels_bound { before.pixels ≤ line_length * line }
+        requires cells_bound { before.cells ≤ columns * line }
+        ensures value { result ≡ found_with before (line_places self.entry.first.now self.entry.second.now line) (line_listed self.entry.first.now self.entry.second.now line) }
+        ensures cells_after { cells.new ≡ sets cells.old before.cells (line_listed self.entry.first.now self.entry.second.now line) }
+    {
+        if pixels == 0 {
+            return before;
+        }
+        Found {
+            left: self.first_x(line, before.left),
+            right: self.last_x(line, before.right),
+            top: before.top.min(line),
+            bottom: before.bottom.max(line),
+            pixels: before.pixels + pixels as usize,
+            cells: self.list_cells(line, before.cells, cells),
+        }
     }
 }

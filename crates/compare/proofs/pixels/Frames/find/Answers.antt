@@ -2,12 +2,12 @@
 -- Assumes nothing.
 use Rattle.std.proofs.Common.{arith}
 use Rattle.compare.proofs.LinesFound.{none, few, size, next}
-use Rattle.compare.proofs.frames.find.Goals as goal
+use Rattle.compare.proofs.pixels.Frames.find.Goals as goal
 
 pub loop-line-init : goal.loop-line-init
 loop-line-init c =
     let a = c.args in
-    none a.first.now a.second.now a.line_counts.now a.cells.now c.nothing-found.result c.requires.line_counts_len c.requires.cells_value c.nothing-found.ensures
+    none a.self.first.now a.self.second.now a.line_counts.now a.cells.now c.nothing-found.result c.requires.line_counts_len c.requires.cells_value c.nothing-found.ensures
 
 pub find_line-found-requires-clause-left_le_line_length : goal.find_line-found-requires-clause-left_le_line_length
 find_line-found-requires-clause-left_le_line_length c = (few _ _ _ _ _ _ c.loop-line.invariant).0
@@ -17,9 +17,6 @@ find_line-found-requires-clause-pixels_bound c = (few _ _ _ _ _ _ c.loop-line.in
 
 pub find_line-found-requires-clause-cells_bound : goal.find_line-found-requires-clause-cells_bound
 find_line-found-requires-clause-cells_bound c = (few _ _ _ _ _ _ c.loop-line.invariant).2
-
-pub find_line-found-requires-clause-cells_len : goal.find_line-found-requires-clause-cells_len
-find_line-found-requires-clause-cells_len c = size _ _ _ _ _ _ c.loop-line.invariant
 
 pub loop-line-preserved : goal.loop-line-preserved
 loop-line-preserved c =
