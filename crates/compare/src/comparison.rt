@@ -1,9 +1,10 @@
 // What a comparison answers, and what it has found on the way there.
 ghost use Rattle.std.specs.Prelude.{◌≡◌};
+ghost use Rattle.machine.specs.Refusal.{number_of};
 ghost use Rattle.compare.specs.Answer.{uncompared};
 ghost use Rattle.compare.specs.Internal.{nothing, Small, reported};
 
-use machine::{DONE, LINE_LENGTH, LINES};
+use machine::{DONE, LINE_LENGTH, LINES, Refusal};
 
 #[repr(C)]
 #[derive(Clone, Copy)]
@@ -30,11 +31,11 @@ pub(crate) struct Found {
     pub cells: usize,
 }
 
-pub(crate) fn refused(status: u8) -> Comparison
-    ensures { result ≡ uncompared status }
+pub(crate) fn refused(reason: Refusal) -> Comparison
+    ensures { result ≡ uncompared (number_of reason) }
 {
     Comparison {
-        status,
+        status: reason.number(),
         empty: false,
         first_x: 0,
         last_x: 0,

@@ -1,22 +1,30 @@
 // The pixels of two frames, compared at their places: how many of a line differ, how far they reach, and whether one of a cell does.
-ghost use Rattle.std.specs.Prelude.{◌≡◌, ◌+◌, ◌*◌, ◌≤◌, ◌<◌, min, max, ltb, length};
-ghost use mathlib.Core.List.{map, foldl};
-ghost use Rattle.machine.specs.Sizes.{cell_length, lines, line_length, frame_length};
-ghost use Rattle.machine.specs.Numbers.{passing_from};
-ghost use Rattle.compare.specs.Internal.{AreFrames, line_places};
-ghost use Rattle.compare.specs.Places.{x_of, differs};
+ghost use Rattle.std.specs.Prelude.{◌≡◌, ◌+◌, ◌*◌, ◌≤◌, ◌<◌, length};
+ghost use Rattle.machine.specs.Sizes.{columns, lines, line_length, frame_length};
 
 use machine::{CELL_LENGTH, LINE_LENGTH};
 
-// Two frames of one size, any byte as a pixel.
+// Two frames, any byte as a pixel.
 #[derive(Clone, Copy)]
 pub(crate) struct Frames<'a> {
     pub first: &'a [u8],
     pub second: &'a [u8],
-    ghost are_frames: { AreFrames first.now second.now },
+    ghost first_len: { length first.now ≡ frame_length },
+    ghost second_len: { length second.now ≡ frame_length },
+}
+
+// One line of them.
+#[derive(Clone, Copy)]
+pub(crate) struct Line<'a> {
+    pub frames: Frames<'a>,
+    pub number: usize,
+    ghost in_frame: { number < lines },
 }
 
 impl Frames<'_> {
+    ghost use Rattle.compare.specs.Internal.{has_place};
+    ghost use Rattle.compare.specs.Places.{differs};
+
     fn differ_at(self, place: usize) -> bool
         requires { place < frame_length }
         ensures { result ≡ differs self.entry.first.now self.entry.second.now place }
@@ -24,46 +32,54 @@ impl Frames<'_> {
         self.first[place] != self.second[place]
     }
 
-    // How many of the 240 pixels from a place on differ. The count stays in a byte, so that sixteen pixels are compared at once.
-    pub(crate) fn differing_pixels(self, from: usize) -> u8
-        requires { from + line_length ≤ frame_length }
-        ensures { result ≡ length (passing_from (differs self.entry.first.now self.entry.second.now) from line_length) }
+    // Whether one of a cell's six pixels differs.
+    pub(crate) fn cell_differs(self, cell: usize) -> bool
+        requires { cell < columns * lines }
+        ensures { result ≡ has_place self.entry.first.now self.entry.second.now cell }
+    {
+        let from = CELL_LENGTH * cell;
+        (0..CELL_LENGTH).any(|k| self.differ_at(from + k))
+    }
+}
+
+impl Line<'_> {
+    ghost use mathlib.Core.List.{map, foldl};
+    ghost use Rattle.std.specs.Prelude.{min, max};
+    ghost use Rattle.compare.specs.Internal.{places_of};
+    ghost use Rattle.compare.specs.Places.{x_of, differs};
+
+    fn differs_at(self, x: usize) -> bool
+        requires { x < line_length }
+        ensures { result ≡ differs self.entry.frames.first.now self.entry.frames.second.now (line_length * self.entry.number + x) }
+    {
+        self.frames.differ_at(LINE_LENGTH * self.number + x)
+    }
+
+    // How many of the 240 pixels differ. The count stays in a byte, so that sixteen pixels are compared at once.
+    pub(crate) fn differing_pixels(self) -> u8
+        ensures { result ≡ length (places_of self.entry) }
     {
         let mut count = 0;
         for x in 0..LINE_LENGTH {
-            count += self.differ_at(from + x) as u8;
+            count += self.differs_at(x) as u8;
         }
         count
     }
 
-    // Whether one of the six pixels from a place on differs.
-    pub(crate) fn cell_differs(self, from: usize) -> bool
-        requires { from + cell_length ≤ frame_length }
-        ensures { result ≡ ltb 0 (length (passing_from (differs self.entry.first.now self.entry.second.now) from cell_length)) }
+    // The first x that differs, if it lies before `left`, else `left`: only such an x makes a rectangle wider.
+    pub(crate) fn first_x(self, left: usize) -> usize
+        requires { left ≤ line_length }
+        ensures { result ≡ foldl min left (map x_of (places_of self.entry)) }
     {
-        (0..CELL_LENGTH).any(|k| self.differ_at(from + k))
+        (0..left).find(|x| self.differs_at(*x)).unwrap_or(left)
     }
 
-    // The first x of a line that differs, if it lies before `left`, else `left`: only such an x makes a rectangle wider.
-    pub(crate) fn first_x(self, line: usize, left: usize) -> usize
-        requires line_lt_lines { line < lines }
-        requires left_le_line_length { left ≤ line_length }
-        ensures { result ≡ foldl min left (map x_of (line_places self.entry.first.now self.entry.second.now line)) }
+    // The last x that differs, if it lies behind `right`, else `right`.
+    pub(crate) fn last_x(self, right: usize) -> usize
+        ensures { result ≡ foldl max right (map x_of (places_of self.entry)) }
     {
-        let from = LINE_LENGTH * line;
-        (0..left)
-            .find(|x| self.differ_at(from + *x))
-            .unwrap_or(left)
-    }
-
-    // The last x of a line that differs, if it lies behind `right`, else `right`.
-    pub(crate) fn last_x(self, line: usize, right: usize) -> usize
-        requires { line < lines }
-        ensures { result ≡ foldl max right (map x_of (line_places self.entry.first.now self.entry.second.now line)) }
-    {
-        let from = LINE_LENGTH * line;
         (right..LINE_LENGTH)
-            .rfind(|x| self.differ_at(from + *x))
+            .rfind(|x| self.differs_at(*x))
             .unwrap_or(right)
     }
 }

@@ -1,6 +1,6 @@
 -- The first pixel that differs is one of the cell's places, and where none does the cell has none.
 -- Assumes nothing.
-use Rattle.std.proofs.Common.{◌≡◌, ◌+◌, ◌<◌, ℕ, Bool, true, false, List, length, ltb, sym, ap, ◌∙◌, arith, rules, tests}
+use Rattle.std.proofs.Common.{◌≡◌, ◌+◌, ◌*◌, ◌<◌, ℕ, Bool, true, false, List, length, ltb, sym, ap, ◌∙◌, arith, rules, tests}
 use borrow.Author.Tests.{lt-ltb}
 use Rattle.std.specs.Bool.{MatchBool}
 use Rattle.machine.specs.Numbers.{passing_from}
@@ -14,8 +14,8 @@ pub returns : goal.returns
 returns c =
     let a = c.args in
     let test = differs a.self.first.now a.self.second.now in
-    told test a.from c.any.result
-    (some_found (λ (k : ℕ). test (a.from + k)) _ (λ x b q k. search (rules, tests)) cell_length _ c.any.result c.any.ensures.ran)
+    told test (cell_length * a.cell) c.any.result
+    (some_found (λ (k : ℕ). test ((cell_length * a.cell) + k)) _ (λ x b q k. search (rules, tests)) cell_length _ c.any.result c.any.ensures.ran)
   where
     told : (test : ℕ → Bool) (from : ℕ) (found : Bool)
         → MatchBool found ((k : ℕ) × (k < cell_length) × (test (from + k) ≡ true)) ((k : ℕ) → k < cell_length → test (from + k) ≡ false)

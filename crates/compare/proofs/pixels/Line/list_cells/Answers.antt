@@ -2,16 +2,16 @@
 -- Assumes nothing.
 use Rattle.std.proofs.Common.{sym, ◌∙◌, arith}
 use Rattle.compare.proofs.CellsListed.{none, few, next_listed, next_equal}
-use Rattle.compare.proofs.pixels.Frames.list_cells.Goals.{then-cell_differs, else-cell_differs}
-use Rattle.compare.proofs.pixels.Frames.list_cells.Goals as goal
+use Rattle.compare.proofs.pixels.Line.list_cells.Goals.{then-cell_differs, else-cell_differs}
+use Rattle.compare.proofs.pixels.Line.list_cells.Goals as goal
 
 pub loop-column-init : goal.loop-column-init
 loop-column-init c =
     let a = c.args in
-    none a.self.first.now a.self.second.now a.line a.before a.cells.now
+    none a.self.frames.first.now a.self.frames.second.now a.self.number a.before a.cells.now
 
 pub overflow_add-count : goal.overflow_add-count
-overflow_add-count c = omega (arith, few _ _ _ _ _ _ _ _ c.loop-column.invariant c.requires.before_bound)
+overflow_add-count c = omega (arith, few _ _ _ _ _ _ _ _ c.loop-column.invariant c.requires)
 
 pub loop-column-preserved : goal.loop-column-preserved
 loop-column-preserved c =

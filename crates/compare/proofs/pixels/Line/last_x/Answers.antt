@@ -5,13 +5,13 @@ use Rattle.machine.specs.Sizes.{line_length}
 use Rattle.compare.specs.Places.{differs}
 use Rattle.compare.proofs.Added.{last_is}
 use Rattle.compare.proofs.Searches.{last_found}
-use Rattle.compare.proofs.pixels.Frames.last_x.Goals as goal
+use Rattle.compare.proofs.pixels.Line.last_x.Goals as goal
 
 pub returns : goal.returns
 returns c =
     let a = c.args in
-    let first = a.self.first.now in
-    let second = a.self.second.now in
+    let first = a.self.frames.first.now in
+    let second = a.self.frames.second.now in
     c.unwrap_or.ensures
-    ∙ last_is first second a.line a.right c.rfind.result
-    (last_found (λ (x : ℕ). differs first second (line_length * a.line + x)) _ (λ x b q k. search (rules, tests)) _ _ c.rfind.result c.rfind.ensures.ran)
+    ∙ last_is first second a.self.number a.right c.rfind.result
+    (last_found (λ (x : ℕ). differs first second (line_length * a.self.number + x)) _ (λ x b q k. search (rules, tests)) _ _ c.rfind.result c.rfind.ensures.ran)
