@@ -32,7 +32,7 @@ struct Lines<'a> {
 #[derive(Clone, Copy)]
 struct Candidate {
     slip: isize,
-    disagreements: u16,
+    disagreements: usize,
 }
 
 // Two lines, any byte as a pixel. Refusal 2 for either length.
@@ -77,7 +77,7 @@ impl Lines<'_> {
         Slip {
             status: DONE,
             slip: best.slip as i8,
-            disagreements: best.disagreements,
+            disagreements: best.disagreements as u16,
         }
     }
 
@@ -88,7 +88,7 @@ impl Lines<'_> {
     {
         let mut count = 0;
         for x in 0..LINE_LENGTH {
-            count += self.disagrees(x, slip) as u16;
+            count += self.disagrees(x, slip) as usize;
         }
         Candidate {
             slip,

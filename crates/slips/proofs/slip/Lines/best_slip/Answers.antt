@@ -2,8 +2,10 @@
 -- Assumes nothing.
 use Rattle.std.proofs.Common.{◌≡◌, ◌+◌, ◌-◌, ℕ, true, false, ℤ, pos, ◌+ℤ◌, w64, to_z, of_z, arith, rules}
 use Rattle.std.proofs.lemmas.Int.{ints}
+use Rattle.machine.proofs.Numbers.{from_most}
+use Rattle.machine.specs.Sizes.{line_length}
 use Rattle.slips.specs.Internal.{is_better}
-use Rattle.slips.specs.Slip.{IsSlip, disagreements}
+use Rattle.slips.specs.Slip.{IsSlip, disagrees, disagreements}
 use Rattle.slips.proofs.Best.{BestTo, best_taken, best_kept}
 use Rattle.slips.proofs.Slips.{place, place_most, place_next}
 use Rattle.slips.proofs.slip.Lines.best_slip.Goals.{then-is_better, else-is_better}
@@ -45,3 +47,9 @@ loop-slip-preserved c =
             counted = here.counted;
           })
     ])
+
+pub overflow_cast-result-2 : goal.overflow_cast-result-2
+unfolding disagreements
+overflow_cast-result-2 c =
+    let test = disagrees c.args.self.reference.now c.args.self.grabbed.now c.loop-slip.best.slip in
+    omega (arith, c.loop-slip.invariant.counted, from_most test 0 line_length)
