@@ -6,9 +6,9 @@ use mathlib.Core.List.{List, [], ◌∷◌, ◌++◌}
 use mathlib.Core.Path.{◌≡◌, refl, sym, ap, ap₂, ◌∙◌}
 use native.Mathlib.Omega.{arith}
 use lib.ListN.{length, set, length-append}
-use lib.Seq.{sets, length-sets}
+use lib.Seq.{sets}
 use Rattle.machine.specs.Sizes.{columns}
-use Rattle.compare.specs.Internal.{has_place, cell_listed, line_listed}
+use Rattle.compare.specs.Internal.{has_place, cell_listed}
 use Rattle.machine.specs.Numbers.{passing_from}
 use Rattle.compare.proofs.Listed.{sets_more}
 use Rattle.machine.proofs.Numbers.{from_none, from_next, from_most}
@@ -35,9 +35,6 @@ module _ (first second : List ℕ) (line before : ℕ) (held : List ℕ) where
   module _ (count : ℕ) (cells : List ℕ) (column : ℕ) (here : Reached count cells column) where
     pub few : before ≤ columns * line → count ≤ columns * line + column
     few h = omega (arith, here.counted, from_most (has_place first second) (columns * line) column)
-
-    pub size : length cells ≡ length held
-    size = rw here.filled (length-sets held before (listed column))
 
     -- a cell more, which the list and the count tell of where it differs
     next : column < columns → (answer : ℕ) (left added : List ℕ)
@@ -66,9 +63,3 @@ module _ (first second : List ℕ) (line before : ℕ) (held : List ℕ) where
     next_equal more equal =
         let cell = columns * line + column in
         next more count cells [] (ap (λ (t : Bool). cond t (cell ∷ []) []) equal) (omega arith) refl
-
-    pub all : columns ≤ column
-        → (count ≡ before + length (line_listed first second line)) × (cells ≡ sets held before (line_listed first second line))
-    all end =
-        let e : column ≡ columns = omega arith in
-        (here.counted ∙ ap (λ (n : ℕ). before + length (listed n)) e, here.filled ∙ ap (λ (n : ℕ). sets held before (listed n)) e)

@@ -3,7 +3,7 @@
 use Rattle.std.specs.Prelude.{ℕ, ◌+◌, ◌*◌, ◌<◌, min, max, Bool, cond, eqb, ltb, length}
 use mathlib.Core.List.{List, [], ◌∷◌, map, foldl}
 use Rattle.machine.specs.Lists.{gather}
-use Rattle.machine.specs.Sizes.{cell_length, columns, lines, line_length, frame_length}
+use Rattle.machine.specs.Sizes.{cell_length, columns, lines, line_length}
 use Rattle.compare.specs.Answer.{listed}
 use Rattle.machine.specs.Numbers.{if_passed, passing_from}
 use Rattle.compare.specs.Places.{x_of, line_of, differs}

@@ -6,6 +6,7 @@ ghost use Rattle.compare.specs.Internal.{nothing, Small, reported};
 
 use machine::{DONE, LINE_LENGTH, LINES, Refusal};
 
+// The C interface's record: it has a status in place of a Result, and `empty` beside the rectangle in place of an Option.
 #[repr(C)]
 #[derive(Clone, Copy)]
 pub struct Comparison {
@@ -20,7 +21,8 @@ pub struct Comparison {
 }
 
 // What the lines so far come to: the sides of the rectangle, and how many pixels and cells differ. Before the first difference the
-// left side is 240 and the top 224, right and bottom are 0.
+// left side is 240 and the top 224, right and bottom are 0: the next line is searched up to them and folded in by `min` and `max` as
+// ever, where an Option of a rectangle would have a case of its own in each. The cells are all that differ, and so no length of the list.
 #[derive(Clone, Copy)]
 pub(crate) struct Found {
     pub left: usize,

@@ -66,7 +66,9 @@ impl Line<'_> {
         count
     }
 
-    // The first x that differs, if it lies before `left`, else `left`: only such an x makes a rectangle wider.
+    // The first x that differs, if it lies before `left`, else `left`: only such an x makes a rectangle wider. Not inlined, as `last_x`:
+    // so the loop over the cells keeps its values in registers.
+    #[inline(never)]
     pub(crate) fn first_x(self, left: usize) -> usize
         requires { left ≤ line_length }
         ensures { result ≡ foldl min left (map x_of (places_of self.entry)) }
@@ -75,6 +77,7 @@ impl Line<'_> {
     }
 
     // The last x that differs, if it lies behind `right`, else `right`.
+    #[inline(never)]
     pub(crate) fn last_x(self, right: usize) -> usize
         ensures { result ≡ foldl max right (map x_of (places_of self.entry)) }
     {

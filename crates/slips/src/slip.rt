@@ -11,6 +11,7 @@ const FIRST_SLIP: isize = -12;
 
 const LAST_SLIP: isize = 12;
 
+// The C interface's record: it has a status in place of a Result.
 #[repr(C)]
 #[derive(Clone, Copy)]
 pub struct Slip {
@@ -67,9 +68,9 @@ impl Lines<'_> {
     fn best_slip(self) -> Slip
         ensures { GivesBest self.entry.reference.now self.entry.grabbed.now result }
     {
-        let mut best = self.at(FIRST_SLIP);
+        let mut best = self.candidate(FIRST_SLIP);
         for slip in FIRST_SLIP + 1..=LAST_SLIP {
-            let next = self.at(slip);
+            let next = self.candidate(slip);
             if next.is_better(best) {
                 best = next;
             }
@@ -81,7 +82,7 @@ impl Lines<'_> {
         }
     }
 
-    fn at(self, slip: isize) -> Candidate
+    fn candidate(self, slip: isize) -> Candidate
         requires { IsSlip slip }
         ensures slip { result.slip ≡ slip }
         ensures count { result.disagreements ≡ disagreements self.entry.reference.now self.entry.grabbed.now slip }

@@ -1,6 +1,6 @@
 -- The first pixel that differs is one of the cell's places, and where none does the cell has none.
 -- Assumes nothing.
-use Rattle.std.proofs.Common.{◌≡◌, ◌+◌, ◌*◌, ◌<◌, ℕ, Bool, true, false, List, length, ltb, sym, ap, ◌∙◌, arith, rules, tests}
+use Rattle.std.proofs.Common.{◌≡◌, ◌+◌, ◌*◌, ◌<◌, ℕ, Bool, true, false, List, length, ltb, sym, ap, rules, tests}
 use borrow.Author.Tests.{lt-ltb}
 use Rattle.std.specs.Bool.{MatchBool}
 use Rattle.machine.specs.Numbers.{passing_from}

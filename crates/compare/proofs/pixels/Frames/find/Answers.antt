@@ -1,7 +1,7 @@
 -- The steps of `Reached`: no line yet, one more.
 -- Assumes nothing.
 use Rattle.std.proofs.Common.{arith}
-use Rattle.compare.proofs.LinesFound.{none, few, size, next}
+use Rattle.compare.proofs.LinesFound.{none, few, next}
 use Rattle.compare.proofs.pixels.Frames.find.Goals as goal
 
 pub loop-number-init : goal.loop-number-init

@@ -1,6 +1,6 @@
 -- The first x that differs stands before all others, and where none lies before `left` that side stays.
 -- Assumes nothing.
-use Rattle.std.proofs.Common.{◌≡◌, ◌+◌, ◌*◌, ◌≤◌, ℕ, map, min, sym, ◌∙◌, arith, rules, tests}
+use Rattle.std.proofs.Common.{◌+◌, ◌*◌, ℕ, ◌∙◌, rules, tests}
 use Rattle.machine.specs.Sizes.{line_length}
 use Rattle.compare.specs.Places.{differs}
 use Rattle.compare.proofs.Added.{first_is}

@@ -1,6 +1,6 @@
 -- The last x that differs stands behind all others, and where none lies behind `right` that side stays.
 -- Assumes nothing.
-use Rattle.std.proofs.Common.{◌≡◌, ◌+◌, ◌*◌, ◌≤◌, ℕ, map, max, sym, ◌∙◌, arith, rules, tests}
+use Rattle.std.proofs.Common.{◌+◌, ◌*◌, ℕ, ◌∙◌, rules, tests}
 use Rattle.machine.specs.Sizes.{line_length}
 use Rattle.compare.specs.Places.{differs}
 use Rattle.compare.proofs.Added.{last_is}

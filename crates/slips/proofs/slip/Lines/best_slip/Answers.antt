@@ -1,12 +1,12 @@
 -- One slip more: it is taken where it is better, and the best stays where it is not.
 -- Assumes nothing.
-use Rattle.std.proofs.Common.{◌≡◌, ◌+◌, ◌-◌, ℕ, true, false, ℤ, pos, ◌+ℤ◌, w64, to_z, of_z, arith, rules}
+use Rattle.std.proofs.Common.{◌≡◌, ◌+◌, ◌-◌, true, false, pos, ◌+ℤ◌, w64, to_z, of_z, arith, rules}
 use Rattle.std.proofs.lemmas.Int.{ints}
 use Rattle.machine.proofs.Numbers.{from_most}
 use Rattle.machine.specs.Sizes.{line_length}
 use Rattle.slips.specs.Internal.{is_better}
 use Rattle.slips.specs.Slip.{IsSlip, disagrees, disagreements}
-use Rattle.slips.proofs.Best.{BestTo, best_taken, best_kept}
+use Rattle.slips.proofs.Best.{best_taken, best_kept}
 use Rattle.slips.proofs.Slips.{place, place_most, place_next}
 use Rattle.slips.proofs.slip.Lines.best_slip.Goals.{then-is_better, else-is_better}
 use Rattle.slips.proofs.slip.Lines.best_slip.Goals as goal
@@ -26,19 +26,19 @@ loop-slip-preserved c =
     let last : passed + 1 + 1 - 1 ≡ passed + 1 = omega arith in
     rw (next, more, last)
     (elim c.if-is_better.branch [
-      then-is_better w ↦
+      | then-is_better w ↦
           let told : is_better slip (disagreements reference grabbed slip) best (disagreements reference grabbed best) ≡ true =
-          cc (w.if-is_better.true, c.is_better.ensures, c.at-next.ensures.slip, c.at-next.ensures.count, here.counted) in
-          rw (w.best-is, c.at-next.ensures.slip)
+          cc (w.if-is_better.true, c.is_better.ensures, c.candidate-next.ensures.slip, c.candidate-next.ensures.count, here.counted) in
+          rw (w.best-is, c.candidate-next.ensures.slip)
           (record {
             after_first = omega arith;
             before_end = omega (arith, place_most slip is);
             best_so_far = best_taken reference grabbed passed best slip is at here.best_so_far told;
-            counted = c.at-next.ensures.count;
+            counted = c.candidate-next.ensures.count;
           })
-    | else-is_better w ↦
+      | else-is_better w ↦
           let told : is_better slip (disagreements reference grabbed slip) best (disagreements reference grabbed best) ≡ false =
-          cc (w.if-is_better.false, c.is_better.ensures, c.at-next.ensures.slip, c.at-next.ensures.count, here.counted) in
+          cc (w.if-is_better.false, c.is_better.ensures, c.candidate-next.ensures.slip, c.candidate-next.ensures.count, here.counted) in
           rw w.best-is
           (record {
             after_first = omega arith;

@@ -3,7 +3,7 @@
 use Rattle.std.proofs.Common.{◌≡◌, length}
 use Rattle.machine.specs.Numbers.{passing_from}
 use Rattle.slips.specs.Slip.{disagrees}
-use Rattle.slips.proofs.slip.Lines.at.Given as goal
+use Rattle.slips.proofs.slip.Lines.candidate.Given as goal
 
 abbrev pub invariant-loop-x : goal.invariant-loop-x
 invariant-loop-x l = l.count ≡ length (passing_from (disagrees l.self.reference.now l.self.grabbed.now l.slip) 0 l.x)

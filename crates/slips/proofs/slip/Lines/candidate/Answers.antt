@@ -5,7 +5,7 @@ use mir.Val.{bool_byte}
 use Rattle.machine.specs.Sizes.{line_length}
 use Rattle.machine.proofs.Numbers.{from_none, from_count, from_most}
 use Rattle.slips.specs.Slip.{disagrees, disagreements}
-use Rattle.slips.proofs.slip.Lines.at.Goals as goal
+use Rattle.slips.proofs.slip.Lines.candidate.Goals as goal
 
 pub loop-x-init : goal.loop-x-init
 loop-x-init c = sym (ap length (from_none _ _))
