@@ -12,12 +12,13 @@ use lib.Dec.{ltb}
 use lib.ListN.{length, length-append, length-map}
 use Rattle.std.proofs.Common.{Option, Some, None}
 use Rattle.std.specs.Option.{unwrap_or}
+use Rattle.std.proofs.lemmas.Bool.{both_ways}
 use Rattle.machine.specs.Lists.{Each}
 use Rattle.machine.specs.Sizes.{cell_length, columns, line_length}
 use Rattle.machine.proofs.Each.{each_map}
 use Rattle.compare.specs.Internal.{line_places, has_place, line_listed, found_with}
 use Rattle.compare.specs.Places.{x_of, line_of, differs}
-use Rattle.machine.proofs.Numbers.{either, clash, from_each, from_member, from_nothing, from_nowhere}
+use Rattle.machine.proofs.Numbers.{either, from_each, from_member, from_nothing, from_nowhere}
 use Rattle.compare.proofs.Picks.{Order, AtLeast, rising, falling, fold_is, fold_kept, fold_all}
 use Rattle.compare.proofs.Searches.{First, Last}
 use Rattle.compare.specs.declared.comparison.Found.{Found}
@@ -61,12 +62,12 @@ module _ (first second : List ℕ) (line : ℕ) where
   -- no x on one side of another differs: those that do stand on its other side
   pub at_least : (x : ℕ) → ((i : ℕ) → i < x → differs first second (line_length * line + i) ≡ false) → (i : ℕ) → DiffersAt i → x ≤ i
   at_least x same i e =
-      ⊎_elim (λ (le : x ≤ i). le) (λ (lt : i < x). absurd (clash (differs first second (line_length * line + i)) e (same i lt))) (either x i)
+      ⊎_elim (λ (le : x ≤ i). le) (λ (lt : i < x). absurd (both_ways (differs first second (line_length * line + i)) (same i lt) e)) (either x i)
 
   pub at_most : (x : ℕ) → ((i : ℕ) → x < i → i < line_length → differs first second (line_length * line + i) ≡ false)
       → (i : ℕ) → i < line_length → DiffersAt i → i ≤ x
   at_most x same i h e =
-      ⊎_elim (λ (le : i ≤ x). le) (λ (lt : x < i). absurd (clash (differs first second (line_length * line + i)) e (same i lt h))) (either i x)
+      ⊎_elim (λ (le : i ≤ x). le) (λ (lt : x < i). absurd (both_ways (differs first second (line_length * line + i)) (same i lt h) e)) (either i x)
 
   -- what a search of the line from either end comes to
   abbrev at_x : ℕ → Bool

@@ -1,8 +1,8 @@
 -- A line without a difference adds nothing, and any other its cells and its number.
 -- Assumes nothing.
 use Rattle.std.proofs.Common.{ℕ, ◌≡◌, ◌<◌, [], length, sym, ap, ap₂, ◌∙◌, arith}
+use Rattle.std.proofs.lemmas.List.{nil_from_length}
 use Rattle.std.proofs.lemmas.List.Edits.{sets}
-use Rattle.machine.proofs.Numbers.{no_length}
 use Rattle.compare.specs.Internal.{places_of, cells_of, found_with}
 use Rattle.compare.proofs.Added.{found_none, none_listed, line_adds}
 use Rattle.compare.specs.declared.pixels.Line.{Line}
@@ -10,7 +10,7 @@ use Rattle.compare.proofs.comparison.Found.with_line.Goals as goal
 
 module _ (line : Line) (pixels : ℕ) (counted : pixels ≡ length (places_of line)) (zero : pixels ≡ 0) where
   no_places : places_of line ≡ []
-  no_places = no_length (places_of line) (sym counted ∙ zero)
+  no_places = nil_from_length (places_of line) (sym counted ∙ zero)
 
   no_cells : cells_of line ≡ []
   no_cells = none_listed line.frames.first.now line.frames.second.now line.number no_places
