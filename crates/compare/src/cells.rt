@@ -8,7 +8,8 @@ use crate::pixels::Line;
 use machine::COLUMNS;
 
 impl Line<'_> {
-    // How many cells differ with those of the line, which go into the list.
+    // How many cells differ with those of the line, which go into the list. The count goes on where the list is full: it is no length of
+    // the list, and a struct of the two would hold a borrow and no fact.
     pub(crate) fn list_cells(self, before: usize, cells: &mut [u16]) -> usize
         requires { before ≤ columns * self.number }
         ensures value { result ≡ before + length (cells_of self.entry) }

@@ -17,33 +17,25 @@ find-requires-clause-cells_value c =
 pub report-requires : goal.report-requires
 report-requires c = rw c.find.ensures.value (small c.args.first.now c.args.second.now)
 
-pub returns-in-Ok-clause-value : goal.returns-in-Ok-clause-value
-unfolding compare_answer
-returns-in-Ok-clause-value c =
-    c.report.ensures
-    ∙ ap reported c.find.ensures.value
-    ∙ report_is c.args.first.now c.args.second.now
-    ∙ sym (done _ _ _ (sym c.in-Ok.ensures))
+pub returns-in-Ok : goal.returns-in-Ok
+unfolding compare_answer counts_left cells_left
+returns-in-Ok c =
+    let first = c.args.first.now in
+    let second = c.args.second.now in
+    let accepted = sym c.in-Ok.ensures in
+    record {
+      value = c.report.ensures ∙ ap reported c.find.ensures.value ∙ report_is first second ∙ sym (done _ _ _ accepted);
+      line_counts_after = c.find.ensures.line_counts_after ∙ counts_are first second ∙ sym (done _ _ _ accepted);
+      cells_after = c.find.ensures.cells_after ∙ listed_are first second ∙ sym (done _ _ _ accepted);
+    }
 
-pub returns-in-Ok-clause-line_counts_after : goal.returns-in-Ok-clause-line_counts_after
-unfolding counts_left
-returns-in-Ok-clause-line_counts_after c =
-    c.find.ensures.line_counts_after ∙ counts_are c.args.first.now c.args.second.now ∙ sym (done _ _ _ (sym c.in-Ok.ensures))
-
-pub returns-in-Ok-clause-cells_after : goal.returns-in-Ok-clause-cells_after
-unfolding cells_left
-returns-in-Ok-clause-cells_after c =
-    c.find.ensures.cells_after ∙ listed_are c.args.first.now c.args.second.now ∙ sym (done _ _ _ (sym c.in-Ok.ensures))
-
-pub returns-in-Err-clause-value : goal.returns-in-Err-clause-value
-unfolding compare_answer
-returns-in-Err-clause-value c =
-    c.refused.ensures ∙ ap uncompared c.in-Err.ensures ∙ sym (by_refusal _ c.in-Err.reason _ _ _ c.in-Err.is c.check_lengths.ensures)
-
-pub returns-in-Err-clause-line_counts_after : goal.returns-in-Err-clause-line_counts_after
-unfolding counts_left
-returns-in-Err-clause-line_counts_after c = sym (by_refusal _ c.in-Err.reason _ _ _ c.in-Err.is c.check_lengths.ensures)
-
-pub returns-in-Err-clause-cells_after : goal.returns-in-Err-clause-cells_after
-unfolding cells_left
-returns-in-Err-clause-cells_after c = sym (by_refusal _ c.in-Err.reason _ _ _ c.in-Err.is c.check_lengths.ensures)
+pub returns-in-Err : goal.returns-in-Err
+unfolding compare_answer counts_left cells_left
+returns-in-Err c =
+    let reason = c.in-Err.reason in
+    let checked = c.check_lengths.ensures in
+    record {
+      value = c.refused.ensures ∙ ap uncompared c.in-Err.ensures ∙ sym (by_refusal _ reason _ _ _ c.in-Err.is checked);
+      line_counts_after = sym (by_refusal _ reason _ _ _ c.in-Err.is checked);
+      cells_after = sym (by_refusal _ reason _ _ _ c.in-Err.is checked);
+    }
