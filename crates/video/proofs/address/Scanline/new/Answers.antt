@@ -1,11 +1,10 @@
 -- `video::address::Scanline::new` meets its contract: the card has both starts, and each is counted from the block's.
-use Rattle.std.proofs.Common.{◌≡◌, ℕ, ◌+◌, ◌-◌, ◌<◌, cond, List, get_or, ap, ap₂, ◌∙◌, arith}
+use Rattle.std.proofs.Common.{◌≡◌, ℕ, ◌+◌, ◌-◌, ◌<◌, cond, List, get_or, ap, ◌∙◌, arith}
 use Rattle.machine.specs.Sizes.{lines}
 use Rattle.card.specs.Card.{text_start, hires_start, card}
 use Rattle.card.proofs.Entries.{entry_of_card}
 use Rattle.video.specs.Address.{video_block, is_hires}
 use Rattle.video.proofs.Addresses.{InBlock, screen_in_block}
-use Rattle.video.specs.declared.address.Scanline.{Scanline}
 use Rattle.video.proofs.address.Scanline.new.Goals as goal
 
 module _ (starts : List ℕ) (is : starts ≡ card) (line : ℕ) (low : line < lines) where
@@ -25,8 +24,8 @@ overflow_sub-result c = (in_block c.args.starts.now c.requires.starts_value c.ar
 pub overflow_sub-result-2 : goal.overflow_sub-result-2
 overflow_sub-result-2 c = (in_block c.args.starts.now c.requires.starts_value c.args.number c.requires.number_lt_lines 4).0
 
-pub returns : goal.returns
-returns c =
+pub invariant_of-result : goal.invariant_of-result
+invariant_of-result c =
     let are = starts_are c.args.starts.now c.requires.starts_value c.args.number c.requires.number_lt_lines in
-    let f : ℕ → ℕ → Scanline = λ text hires. record { number = c.args.number; text = text - video_block; hires = hires - video_block } in
-    ap₂ f are.0 are.1
+    let from_block : ℕ → ℕ = λ start. start - video_block in
+    record { is_line = c.requires.number_lt_lines; text_is = ap from_block are.0; hires_is = ap from_block are.1 }
