@@ -1,9 +1,8 @@
 -- The registers hold colours, and a cell is six of them: its pattern, painted with the registers that it leaves.
 -- Assumes nothing.
 use Prim.Native.Nat.{ℕ, ◌%◌, ◌≤◌}
-use Rattle.std.specs.Prelude.{None}
-use Rattle.std.specs.Bool.{then_some}
-use mathlib.Core.Bool.{Bool, true, false, cond, not}
+use Rattle.std.specs.Prelude.{None, Some, unwrap_or}
+use mathlib.Core.Bool.{Bool, true, false, cond}
 use mathlib.Core.List.{List, map}
 use mathlib.Core.Option.{none, some}
 use mathlib.Core.Path.{◌≡◌, refl, ap}
@@ -96,7 +95,7 @@ module _ (ram : Ram) (counter line column : ℕ) (before : Registers) where
 
   -- where its pattern is read
   abbrev pub pattern_address : ℕ
-  pattern_address = cond (is_bitmap line before.mode) screen definition
+  pattern_address = unwrap_or (cond (is_bitmap line before.mode) None (Some definition)) screen
 
   -- it is in the low six bits of the byte there
   pictured : (bitmap : Bool) → is_bitmap line before.mode ≡ bitmap → is_attribute byte ≡ false
@@ -106,7 +105,7 @@ module _ (ram : Ram) (counter line column : ℕ) (before : Registers) where
   pictured false e picture = simp (picture, e)
 
   -- outside bitmaps it is a character byte
-  used_outside : (bitmap : Bool) (address : ℕ) → then_some (not bitmap) address ≡ optional (cond bitmap none (some address))
+  used_outside : (bitmap : Bool) (address : ℕ) → cond bitmap None (Some address) ≡ optional (cond bitmap none (some address))
   used_outside true address = refl
   used_outside false address = refl
 
@@ -122,7 +121,7 @@ module _ (ram : Ram) (counter line column : ℕ) (before : Registers) where
         registers = before;
         colours = shown before counter byte (byte_at ram.image pattern_address);
         screen = screen;
-        character = then_some (not (is_bitmap line before.mode)) definition;
+        character = cond (is_bitmap line before.mode) None (Some definition);
       })
       (painted_cell (cell ram counter line column before))
   unfolding cell registers_after character_used

@@ -26,7 +26,8 @@ impl Source<'_> {
         ensures { result ≡ painted_cell (cell (block_ram self.entry.block.now) self.entry.state.counter line.number column before) }
     {
         let counter = self.state.counter;
-        let screen = line.screen_address(column, before.mode);
+        let mode = before.mode;
+        let screen = line.screen_address(column, mode);
         let byte = self.block[screen];
         if is_attribute(byte) {
             let mut after = before;
@@ -38,14 +39,15 @@ impl Source<'_> {
                 character: None,
             };
         }
-        let bitmap = line.is_bitmap(before.mode);
+        let bitmap = line.is_bitmap(mode);
         let definition = line.character_address(before, byte);
-        let pattern = choose(bitmap, screen, definition);
+        let character = choose(bitmap, None, Some(definition));
+        let pattern = character.unwrap_or(screen);
         PaintedCell {
             registers: before,
             colours: before.paint_colours(counter, self.block[pattern], byte),
             screen,
-            character: (!bitmap).then_some(definition),
+            character,
         }
     }
 }

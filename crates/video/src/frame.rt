@@ -1,9 +1,9 @@
 // One frame: 224 lines, each painted where it belongs in the lent frame.
 ghost use Rattle.std.specs.Prelude.{◌≡◌, cond, length};
-ghost use Rattle.machine.specs.Refusal.{status_of};
+ghost use Rattle.machine.specs.Refusal.{status_of, refusal};
 ghost use Rattle.machine.specs.Sizes.{frame_length};
 ghost use Rattle.used_map.specs.Map.{marked};
-ghost use Rattle.video.specs.Answer.{painted, frame_refusal, frame_answer, frame_contents, mapped_frame_refusal, mapped_frame_answer, mapped_frame_contents, mapped_frame_map};
+ghost use Rattle.video.specs.Answer.{painted, frame_checks, frame_refusal, frame_answer, frame_contents, mapped_frame_refusal, mapped_frame_answer, mapped_frame_contents, mapped_frame_map};
 ghost use Rattle.video.specs.Cell.{pixels, used};
 ghost use Rattle.video.specs.Frame.{frame_cells};
 ghost use Rattle.video.specs.State.{with_profile, after_frame};
@@ -23,7 +23,7 @@ pub fn paint_frame(memory: &[u8], state: State, frame: &mut [u8]) -> Painted
     ensures value { result ≡ frame_answer memory.now state frame.old }
     ensures frame_after { frame.new ≡ frame_contents memory.now state frame.old }
 {
-    match check_frame(memory, state, frame) {
+    match check_unmapped(memory, state, frame) {
         Ok(()) => {
             let block = video_block(memory, state.profile);
             Source { block, state }.fill_frame::<false>(frame, &mut [])
@@ -32,10 +32,17 @@ pub fn paint_frame(memory: &[u8], state: State, frame: &mut [u8]) -> Painted
     }
 }
 
-fn check_frame(memory: &[u8], state: State, frame: &[u8]) -> Result<(), Refusal>
+// Refusals 12, 1, 2 for the frame.
+fn check_lent(memory: &[u8], state: State, frame: &[u8]) -> Result<(), Refusal>
+    ensures { status_of result ≡ refusal (frame_checks memory.now state frame.now) }
+{
+    check_picture(state.profile, memory.len(), FRAME_LENGTH, frame.len())
+}
+
+fn check_unmapped(memory: &[u8], state: State, frame: &[u8]) -> Result<(), Refusal>
     ensures { status_of result ≡ frame_refusal memory.now state frame.now }
 {
-    check_picture(state.profile, memory.len(), FRAME_LENGTH, frame.len())?;
+    check_lent(memory, state, frame)?;
     check_state(state)
 }
 
@@ -45,7 +52,7 @@ pub fn paint_frame_mapped(memory: &[u8], state: State, frame: &mut [u8], map: &m
     ensures frame_after { frame.new ≡ mapped_frame_contents memory.now state frame.old map.old }
     ensures map_after { map.new ≡ mapped_frame_map memory.now state frame.old map.old }
 {
-    match check_mapped_frame(memory, state, frame, map) {
+    match check_mapped(memory, state, frame, map) {
         Ok(()) => {
             let from = block_marks(state.profile);
             let end = from + BLOCK_MARKS;
@@ -56,16 +63,16 @@ pub fn paint_frame_mapped(memory: &[u8], state: State, frame: &mut [u8], map: &m
     }
 }
 
-fn check_mapped_frame(memory: &[u8], state: State, frame: &[u8], map: &[u8]) -> Result<(), Refusal>
+fn check_mapped(memory: &[u8], state: State, frame: &[u8], map: &[u8]) -> Result<(), Refusal>
     ensures { status_of result ≡ mapped_frame_refusal memory.now state frame.now map.now }
 {
-    check_picture(state.profile, memory.len(), FRAME_LENGTH, frame.len())?;
+    check_lent(memory, state, frame)?;
     check_output(MAP_LENGTH, map.len())?;
     check_state(state)
 }
 
 impl Source<'_> {
-    // The parameter says whether the used addresses are marked.
+    // MARKED says whether the used addresses are marked.
     fn fill_frame<const MARKED: bool>(self, frame: &mut [u8], marks: &mut [u8]) -> Painted
         requires { length frame.old ≡ frame_length }
         ensures value { result ≡ painted (after_frame self.entry.state) (frame_cells self.entry.block.now (with_profile 1 self.entry.state)) }

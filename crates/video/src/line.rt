@@ -1,9 +1,9 @@
 // One line: forty cells from left to right, then their pixels where they belong.
 ghost use Rattle.std.specs.Prelude.{◌≡◌, ◌<◌, cond, map, length};
-ghost use Rattle.machine.specs.Refusal.{status_of};
+ghost use Rattle.machine.specs.Refusal.{status_of, refusal};
 ghost use Rattle.machine.specs.Sizes.{columns, lines, line_length};
 ghost use Rattle.used_map.specs.Map.{marked};
-ghost use Rattle.video.specs.Answer.{painted, cells_of_line, line_refusal, line_answer, line_contents, mapped_line_refusal, mapped_line_answer, mapped_line_contents, mapped_line_map};
+ghost use Rattle.video.specs.Answer.{painted, cells_of_line, line_checks, line_refusal, line_answer, line_contents, mapped_line_refusal, mapped_line_answer, mapped_line_contents, mapped_line_map};
 ghost use Rattle.video.specs.Cell.{Cell, pixels, used};
 ghost use Rattle.video.specs.Internal.{block_ram, painted_line};
 ghost use Rattle.video.specs.Line.{line_cells};
@@ -31,7 +31,7 @@ pub fn paint_line(memory: &[u8], state: State, line: usize, output: &mut [u8]) -
     ensures value { result ≡ line_answer memory.now state line output.old }
     ensures output_after { output.new ≡ line_contents memory.now state line output.old }
 {
-    match check_single(memory, state, line, output) {
+    match check_unmapped(memory, state, line, output) {
         Ok(()) => {
             let block = video_block(memory, state.profile);
             Source { block, state }.fill_single::<false>(line, output, &mut [])
@@ -40,10 +40,17 @@ pub fn paint_line(memory: &[u8], state: State, line: usize, output: &mut [u8]) -
     }
 }
 
-fn check_single(memory: &[u8], state: State, line: usize, output: &[u8]) -> Result<(), Refusal>
+// Refusals 12, 1, 2 for the line.
+fn check_lent(memory: &[u8], state: State, output: &[u8]) -> Result<(), Refusal>
+    ensures { status_of result ≡ refusal (line_checks memory.now state output.now) }
+{
+    check_picture(state.profile, memory.len(), LINE_LENGTH, output.len())
+}
+
+fn check_unmapped(memory: &[u8], state: State, line: usize, output: &[u8]) -> Result<(), Refusal>
     ensures { status_of result ≡ line_refusal memory.now state line output.now }
 {
-    check_picture(state.profile, memory.len(), LINE_LENGTH, output.len())?;
+    check_lent(memory, state, output)?;
     check_state(state)?;
     check_line(line)
 }
@@ -60,7 +67,7 @@ pub fn paint_line_mapped(
     ensures output_after { output.new ≡ mapped_line_contents memory.now state line output.old map.old }
     ensures map_after { map.new ≡ mapped_line_map memory.now state line output.old map.old }
 {
-    match check_mapped_single(memory, state, line, output, map) {
+    match check_mapped(memory, state, line, output, map) {
         Ok(()) => {
             let from = block_marks(state.profile);
             let end = from + BLOCK_MARKS;
@@ -71,7 +78,7 @@ pub fn paint_line_mapped(
     }
 }
 
-fn check_mapped_single(
+fn check_mapped(
     memory: &[u8],
     state: State,
     line: usize,
@@ -80,13 +87,13 @@ fn check_mapped_single(
 ) -> Result<(), Refusal>
     ensures { status_of result ≡ mapped_line_refusal memory.now state line output.now map.now }
 {
-    check_picture(state.profile, memory.len(), LINE_LENGTH, output.len())?;
+    check_lent(memory, state, output)?;
     check_output(MAP_LENGTH, map.len())?;
     check_state(state)?;
     check_line(line)
 }
 
-// The parameter says whether the used addresses are marked: each of the two has a loop of its own, which asks for nothing in a cell.
+// MARKED says whether the used addresses are marked: without marks nothing is asked in a cell, and no map is lent.
 impl Source<'_> {
     // A line by itself, which begins in the mode of the state.
     fn fill_single<const MARKED: bool>(
@@ -133,19 +140,18 @@ impl Source<'_> {
         cells: &mut [[u8; 6]; 40],
         marks: &mut [u8],
     ) -> PaintedLine
-        requires { length cells.old ≡ columns }
         ensures value { result ≡ painted_line (block_ram self.entry.block.now) self.entry.state.counter line.number before.mode }
         ensures cells_after { cells.new ≡ map (λ (c : Cell). c.colours) (line_cells (block_ram self.entry.block.now) self.entry.state.counter line.number before.mode) }
         ensures marks_after { marks.new ≡ cond MARKED (marked marks.old (used (line_cells (block_ram self.entry.block.now) self.entry.state.counter line.number before.mode))) marks.old }
     {
         let mut registers = before.line_reset();
         let mut character = 0;
-        for column in 0..COLUMNS {
+        for (column, colours) in cells.iter_mut().enumerate() {
             let cell = self.paint_cell(line, column, registers);
             if MARKED {
                 mark_cell(marks, cell);
             }
-            cells[column] = cell.colours;
+            *colours = cell.colours;
             registers = cell.registers;
             character += usize::from(cell.character.is_some());
         }

@@ -92,7 +92,7 @@ impl Registers {
     fn shown_ink(self, counter: u8) -> u64
         ensures { result ≡ shown_ink self counter }
     {
-        let hidden = bit(FLASH, self.style) & (counter >= HIDDEN_FROM);
+        let hidden = bit(FLASH, self.style) && counter >= HIDDEN_FROM;
         choose(hidden, self.paper, self.ink)
     }
 }

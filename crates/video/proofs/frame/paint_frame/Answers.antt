@@ -11,7 +11,7 @@ pub returns-in-Ok : goal.returns-in-Ok
 unfolding frame_answer frame_contents
 returns-in-Ok c =
     let a = c.args in
-    let ok = passed _ _ c.check_frame.ensures _ c.in-Ok.is in
+    let ok = passed _ _ c.check_unmapped.ensures _ c.in-Ok.is in
     let sized : IsImage a.state.profile a.memory.now = search rules in
     let done = frame_painted _ ok a.memory.now a.state sized _ c.video_block-block.ensures.value a.frame.now (after_frame a.state) in
     record { value = c.fill_frame.ensures.value ∙ done.0; frame_after = c.fill_frame.ensures.frame_after ∙ done.1 }
@@ -21,6 +21,6 @@ unfolding frame_answer frame_contents
 returns-in-Err c =
     let a = c.args in
     let cells = frame_cells a.memory.now a.state in record {
-      value = c.refused.ensures ∙ answer_refused _ _ c.check_frame.ensures _ c.in-Err.is cells a.state (after_frame a.state);
-      frame_after = contents_refused _ _ c.check_frame.ensures _ c.in-Err.is cells a.frame.now;
+      value = c.refused.ensures ∙ answer_refused _ _ c.check_unmapped.ensures _ c.in-Err.is cells a.state (after_frame a.state);
+      frame_after = contents_refused _ _ c.check_unmapped.ensures _ c.in-Err.is cells a.frame.now;
     }

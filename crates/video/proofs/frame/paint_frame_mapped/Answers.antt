@@ -14,7 +14,7 @@ pub returns-in-Ok : goal.returns-in-Ok
 unfolding mapped_frame_answer mapped_frame_contents mapped_frame_map
 returns-in-Ok c =
     let a = c.args in
-    let ok = passed _ _ c.check_mapped_frame.ensures _ c.in-Ok.is in
+    let ok = passed _ _ c.check_mapped.ensures _ c.in-Ok.is in
     let sized : IsImage a.state.profile a.memory.now = search rules in
     let mapped : length a.map.now ≡ map_length = search rules in
     let done = frame_painted _ ok a.memory.now a.state sized _ c.video_block-block.ensures.value a.frame.now (after_frame a.state) in
@@ -33,7 +33,7 @@ unfolding mapped_frame_answer mapped_frame_contents mapped_frame_map
 returns-in-Err c =
     let a = c.args in
     let cells = frame_cells a.memory.now a.state in record {
-      value = c.refused.ensures ∙ answer_refused _ _ c.check_mapped_frame.ensures _ c.in-Err.is cells a.state (after_frame a.state);
-      frame_after = contents_refused _ _ c.check_mapped_frame.ensures _ c.in-Err.is cells a.frame.now;
-      map_after = map_refused _ _ c.check_mapped_frame.ensures _ c.in-Err.is cells a.map.now;
+      value = c.refused.ensures ∙ answer_refused _ _ c.check_mapped.ensures _ c.in-Err.is cells a.state (after_frame a.state);
+      frame_after = contents_refused _ _ c.check_mapped.ensures _ c.in-Err.is cells a.frame.now;
+      map_after = map_refused _ _ c.check_mapped.ensures _ c.in-Err.is cells a.map.now;
     }

@@ -10,7 +10,7 @@ pub returns-in-Ok : goal.returns-in-Ok
 unfolding line_answer line_contents
 returns-in-Ok c =
     let a = c.args in
-    let ok = passed _ _ c.check_single.ensures _ c.in-Ok.is in
+    let ok = passed _ _ c.check_unmapped.ensures _ c.in-Ok.is in
     let sized : IsImage a.state.profile a.memory.now = search rules in
     let low : a.line < lines = search rules in
     let done = line_painted _ ok a.memory.now a.state sized _ c.video_block-block.ensures.value a.output.now a.line low in
@@ -21,6 +21,6 @@ unfolding line_answer line_contents
 returns-in-Err c =
     let a = c.args in
     let cells = cells_of_line a.memory.now a.state a.line in record {
-      value = c.refused.ensures ∙ answer_refused _ _ c.check_single.ensures _ c.in-Err.is cells a.state a.state;
-      output_after = contents_refused _ _ c.check_single.ensures _ c.in-Err.is cells a.output.now;
+      value = c.refused.ensures ∙ answer_refused _ _ c.check_unmapped.ensures _ c.in-Err.is cells a.state a.state;
+      output_after = contents_refused _ _ c.check_unmapped.ensures _ c.in-Err.is cells a.output.now;
     }

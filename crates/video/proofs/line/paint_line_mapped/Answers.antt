@@ -13,7 +13,7 @@ pub returns-in-Ok : goal.returns-in-Ok
 unfolding mapped_line_answer mapped_line_contents mapped_line_map
 returns-in-Ok c =
     let a = c.args in
-    let ok = passed _ _ c.check_mapped_single.ensures _ c.in-Ok.is in
+    let ok = passed _ _ c.check_mapped.ensures _ c.in-Ok.is in
     let sized : IsImage a.state.profile a.memory.now = search rules in
     let mapped : length a.map.now ≡ map_length = search rules in
     let low : a.line < lines = search rules in
@@ -33,7 +33,7 @@ unfolding mapped_line_answer mapped_line_contents mapped_line_map
 returns-in-Err c =
     let a = c.args in
     let cells = cells_of_line a.memory.now a.state a.line in record {
-      value = c.refused.ensures ∙ answer_refused _ _ c.check_mapped_single.ensures _ c.in-Err.is cells a.state a.state;
-      output_after = contents_refused _ _ c.check_mapped_single.ensures _ c.in-Err.is cells a.output.now;
-      map_after = map_refused _ _ c.check_mapped_single.ensures _ c.in-Err.is cells a.map.now;
+      value = c.refused.ensures ∙ answer_refused _ _ c.check_mapped.ensures _ c.in-Err.is cells a.state a.state;
+      output_after = contents_refused _ _ c.check_mapped.ensures _ c.in-Err.is cells a.output.now;
+      map_after = map_refused _ _ c.check_mapped.ensures _ c.in-Err.is cells a.map.now;
     }

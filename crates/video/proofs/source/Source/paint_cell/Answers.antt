@@ -34,10 +34,10 @@ returns c =
     let byte = read a.self.block.now c.screen_address-screen.result a.line.number a.column a.before.mode screen in
     let picture = sym c.is_attribute.ensures ∙ c.if-is_attribute.false in
     let bitmap = rw mode at c.is_bitmap-bitmap.ensures in
-    let chosen : c.choose-pattern.result ≡ pattern_address (block_ram a.self.block.now) counter a.line.number a.column a.before =
-    rw (c.choose-pattern.ensures, c.character_address-definition.ensures, bitmap, byte, screen) in
+    let chosen : c.unwrap_or-pattern.result ≡ pattern_address (block_ram a.self.block.now) counter a.line.number a.column a.before =
+    rw (c.unwrap_or-pattern.ensures, c.choose-character.ensures, c.character_address-definition.ensures, bitmap, byte, screen) in
     rw (
-      c.then_some.ensures,
+      c.choose-character.ensures,
       c.paint_colours-2.ensures,
       c.character_address-definition.ensures,
       bitmap,

@@ -11,14 +11,14 @@ use Rattle.video.proofs.source.Source.paint_cells.Goals as goal
 
 pub loop-column-init : goal.loop-column-init
 loop-column-init g c = record {
-  done = none _ _ _ _ c.args.cells.now c.line_reset-registers.result c.requires c.line_reset-registers.ensures;
+  done = none _ _ _ _ c.args.cells.now c.line_reset-registers.result (omega arith) c.line_reset-registers.ensures;
   marks = none_marked _ _ _ _ (not (eqb g.row.MARKED 0)) c.args.marks.now (λ k. (c.type_inv.marks k).fits);
 }
 
 pub overflow_add-character : goal.overflow_add-character
 overflow_add-character g c =
     let cell = c.paint_cell-cell in
-    let grown = next _ _ _ _ _ _ _ _ c.loop-column.invariant.done cell.result cell.ensures c.loop-column-test.true in
+    let grown = next _ _ _ _ _ _ _ _ c.loop-column.invariant.done cell.result cell.ensures (omega arith) in
     let counted : c.from-character.result ≡ from_bool (is_some cell.result.character) = c.from-character.ensures ∙ ap from_bool c.is_some.ensures in
     record { fits = rw counted (omega (arith, few _ _ _ _ _ _ _ _ grown)) }
 
@@ -32,7 +32,7 @@ loop-column-preserved g c =
       | then-this-ne0 w ↦ w.marks-is ∙ w.mark_cell.ensures ∙ simp (ne_eqb g.row.MARKED 0 w.if-this-ne0.true)
       | else-this-ne0 w ↦ w.marks-is ∙ simp (eq-eqb g.row.MARKED 0 w.if-this-ne0.false)
     ] in record {
-      done = rw counted (next _ _ _ _ _ _ _ _ here.invariant.done cell.result cell.ensures c.loop-column-test.true);
+      done = rw counted (next _ _ _ _ _ _ _ _ here.invariant.done cell.result cell.ensures (omega arith));
       marks = next_marked _ _ _ _ _ _ _ _ here.invariant.done cell.result cell.ensures (not (eqb g.row.MARKED 0)) _ here.marks _ here.invariant.marks after;
     }
 
