@@ -1,6 +1,7 @@
 -- What the loop over a frame has done when it comes to a line, how one line more adds to it, and what it comes to at the end.
 -- Assumes nothing.
 use Prim.Native.Nat.{ℕ, ◌+◌, ◌-◌, ◌*◌, ◌≤◌, ◌<◌}
+use mathlib.Core.Bool.{Bool, true, false, cond}
 use mathlib.Core.List.{List, ◌++◌, flat_map, flatten}
 use mathlib.Core.Path.{◌≡◌, refl, sym, ap, ap₂, ◌∙◌}
 use native.Mathlib.Omega.{arith}
@@ -21,7 +22,7 @@ use Rattle.video.specs.Line.{line_cells}
 use Rattle.video.specs.Ram.{Ram}
 use Rattle.video.specs.State.{with_profile, after_frame}
 use Rattle.video.proofs.Frames.{lines_next, characters_down, mode_next, mode_down, frame_uses_screen_bytes}
-use Rattle.video.proofs.Lines.{line_pixels, line_uses_screen_bytes}
+use Rattle.video.proofs.Lines.{line_pixels}
 use Rattle.video.proofs.Readings.{pixels_append, characters_append, used_append}
 use Rattle.video.specs.declared.line.PaintedLine.{PaintedLine}
 use Rattle.video.specs.declared.registers.Registers.{Registers}
@@ -34,29 +35,30 @@ module _ (image : Image) (state : State) where
   abbrev first : ℕ → List Cell
   first = first_lines ram state.counter state.mode
 
-  pub record Reached (frame : List ℕ) (registers : Registers) (screen character line : ℕ) : Type 0 where
-    pub within : line ≤ lines
+  pub record Reached (frame : List ℕ) (registers : Registers) (character line : ℕ) : Type 0 where
     pub size : length frame ≡ frame_length
     pub filled : take (line_length * line) frame ≡ pixels (first line)
     pub path : registers.mode ≡ mode_before ram state.mode line
-    pub screens : screen ≡ columns * line
     pub characters : character ≡ length (character_addresses (first line))
 
-  pub none : (frame : List ℕ) (registers : Registers) → length frame ≡ frame_length → registers.mode ≡ state.mode → Reached frame registers 0 0 0
+  pub none : (frame : List ℕ) (registers : Registers) → length frame ≡ frame_length → registers.mode ≡ state.mode → Reached frame registers 0 0
   unfolding first_lines gather mode_after_lines pixels flatten character_addresses flat_map
-  none frame registers size mode =
-      record { within = omega arith; size = size; filled = refl; path = mode; screens = refl; characters = refl }
+  none frame registers size mode = record { size = size; filled = refl; path = mode; characters = refl }
 
-  -- no address is marked before the first line
-  pub none_marked : (marks : List ℕ) → Bytes marks → marks ≡ marked marks (used (first 0))
+  -- where addresses are marked, those of the lines before a line are
+  abbrev pub Marked : Bool → ℕ → List ℕ → List ℕ → Type 0
+  Marked marking line before marks = marks ≡ cond marking (marked before (used (first line))) before
+
+  pub none_marked : (marking : Bool) (marks : List ℕ) → Bytes marks → Marked marking 0 marks marks
   unfolding first_lines gather used flat_map
-  none_marked marks bytes = marked_none marks bytes
+  none_marked true marks bytes = marked_none marks bytes
+  none_marked false marks bytes = refl
 
-  module _ (frame : List ℕ) (registers : Registers) (screen character line : ℕ) (here : Reached frame registers screen character line) where
+  module _ (frame : List ℕ) (registers : Registers) (character line : ℕ) (here : Reached frame registers character line) where
     pub next : line < lines → (part : List ℕ) (answer : PaintedLine)
         → part ≡ pixels (line_cells ram state.counter line registers.mode)
         → answer ≡ painted_line ram state.counter line registers.mode
-        → Reached (put_mid (line_length * line) (line_length * line + line_length - line_length * line) frame part) answer.registers (screen + answer.screen)
+        → Reached (put_mid (line_length * line) (line_length * line + line_length - line_length * line) frame part) answer.registers
         (character + answer.character) (line + 1)
     next more part answer p e =
         let mode = mode_before ram state.mode line in
@@ -67,11 +69,9 @@ module _ (image : Image) (state : State) where
         let fits : line_length * line + line_length ≤ length frame = omega arith in
         let grown = lines_next ram state.counter state.mode line in
         record {
-          within = omega arith;
           size = piece_length line_length line frame fits part size ∙ here.size;
           filled = piece_done line_length line frame fits part size ∙ ap₂ ◌++◌ here.filled pixels-are ∙ sym (ap pixels grown ∙ pixels_append (first line) cells);
           path = ap (λ (a : PaintedLine). a.registers.mode) is ∙ sym (mode_next ram state.mode line);
-          screens = omega (arith, here.screens, ap (λ (a : PaintedLine). a.screen) is, line_uses_screen_bytes ram state.counter line mode);
           characters =
               ap₂ (λ (n : ℕ) (a : PaintedLine). n + a.character) here.characters is
               ∙ sym (ap (λ (l : List Cell). length (character_addresses l)) grown ∙ characters_append (first line) cells);
@@ -82,25 +82,21 @@ module _ (image : Image) (state : State) where
     few = omega (arith, here.characters, characters_down ram state.counter state.mode line)
 
     -- the line's addresses are marked after those of the lines before it
-    pub next_marked : (before marks after : List ℕ) → marks ≡ marked before (used (first line))
-        → after ≡ marked marks (used (line_cells ram state.counter line registers.mode))
-        → after ≡ marked before (used (first (line + 1)))
-    next_marked before marks after m a =
+    pub next_marked : (marking : Bool) (before marks after : List ℕ) → Marked marking line before marks
+        → after ≡ cond marking (marked marks (used (line_cells ram state.counter line registers.mode))) marks
+        → Marked marking (line + 1) before after
+    next_marked true before marks after m a =
         let cells = line_of ram state.counter state.mode line in
         a
         ∙ ap₂ (λ (l : List ℕ) (mode : ℕ). marked l (used (line_cells ram state.counter line mode))) m here.path
         ∙ marks_join before (used (first line)) (used cells)
         ∙ ap (marked before) (sym (ap used (lines_next ram state.counter state.mode line) ∙ used_append (first line) cells))
+    next_marked false before marks after m a = a ∙ m
 
-    pub all : lines ≤ line
-        → (answered (after_frame state) registers.mode screen character ≡ painted (after_frame state) (frame_cells image (with_profile 1 state)))
+    pub all : line ≡ lines
+        → (answered (after_frame state) registers.mode (columns * lines) character ≡ painted (after_frame state) (frame_cells image (with_profile 1 state)))
         × (frame ≡ pixels (frame_cells image (with_profile 1 state)))
-    all end =
-        let e : line ≡ lines = omega arith in (
-          rw (here.path, here.screens, here.characters, e, mode_down ram state.counter state.mode lines, frame_uses_screen_bytes image (with_profile 1 state)),
-          sym (take_all (line_length * line) frame (omega arith)) ∙ here.filled ∙ ap (λ (n : ℕ). pixels (first n)) e,
-        )
-
-    pub all_marked : lines ≤ line → (before marks : List ℕ) → marks ≡ marked before (used (first line))
-        → marks ≡ marked before (used (frame_cells image (with_profile 1 state)))
-    all_marked end before marks m = let e : line ≡ lines = omega arith in m ∙ ap (λ (n : ℕ). marked before (used (first n))) e
+    all end = (
+      rw (here.path, here.characters, end, mode_down ram state.counter state.mode lines, frame_uses_screen_bytes image (with_profile 1 state)) refl,
+      sym (take_all (line_length * line) frame (omega arith)) ∙ here.filled ∙ ap (λ (n : ℕ). pixels (first n)) end,
+    )

@@ -4,7 +4,7 @@ ghost use Rattle.machine.specs.Bits.{bit};
 ghost use Rattle.video.specs.Internal.{pixel_bytes, spread_word};
 ghost use Rattle.video.specs.Pattern.{pattern_colours, complemented};
 
-use crate::bits::{bit, wide};
+use machine::bit;
 
 // Six copies of a pattern: after COPY_SHIFT the lowest bit of each pixel's byte is the pixel's own.
 const COPIES: u64 = 0x20100008040201;
@@ -34,7 +34,7 @@ fn complement(byte: u8, word: u64) -> u64
     requires { word ≤ 0x07070007070707 }
     ensures { result ≡ cond (bit 128 byte) (0x07070007070707 - word) word }
 {
-    if bit(INVERSE, wide(byte)) {
+    if bit(INVERSE, u64::from(byte)) {
         WHITES - word
     } else {
         word
@@ -45,7 +45,7 @@ fn complement(byte: u8, word: u64) -> u64
 fn spread(pattern: u8) -> u64
     ensures { result ≡ spread_word pattern }
 {
-    wide(pattern) * COPIES / COPY_SHIFT & ONES
+    u64::from(pattern) * COPIES / COPY_SHIFT & ONES
 }
 
 // The bytes of a word that are pixels, the lowest first.

@@ -32,11 +32,7 @@ impl State {
     pub(crate) fn with_mode(self, mode: u8) -> Self
         ensures { result ≡ with_mode mode self }
     {
-        State {
-            mode,
-            counter: self.counter,
-            profile: self.profile,
-        }
+        State { mode, ..self }
     }
 
     // A frame moves the counter; its cells set the mode.
@@ -45,9 +41,8 @@ impl State {
         ensures { result ≡ after_frame self }
     {
         State {
-            mode: self.mode,
             counter: next_counter(self.counter),
-            profile: self.profile,
+            ..self
         }
     }
 }
