@@ -14,7 +14,8 @@ pub use refusal::{
 };
 pub use select::{bit, choose};
 
-// The profiles: the 48K machine, and the 16K machine.
+// The profiles: the 48K machine, and the 16K machine. Numbers and no enum: `image_length` and `fold` promise an answer for any number,
+// and a state that C hands in holds one.
 pub const PROFILE_48K: u8 = 0;
 
 pub const PROFILE_16K: u8 = 1;

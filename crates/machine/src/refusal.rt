@@ -29,6 +29,7 @@ impl Refusal {
     }
 }
 
+// What the checks share; each of them names its limit and its refusal once.
 fn refuse_if(applies: bool, reason: Refusal) -> Result<(), Refusal>
     ensures { status_of result ≡ refusal (check_of reason applies ∷ []) }
 {

@@ -20,7 +20,7 @@ use Rattle.video.specs.Internal.{painted_cell, used_by, painted_line}
 use Rattle.video.specs.Line.{registers_before, cell_at, first_cells, line_cells}
 use Rattle.video.specs.Ram.{Ram}
 use Rattle.video.specs.Registers.{line_reset}
-use Rattle.video.proofs.Lines.{cells_next, cells_length, registers_next}
+use Rattle.video.proofs.Lines.{cells_next, cells_length, registers_next, line_uses_screen_bytes}
 use Rattle.video.proofs.Readings.{one_counted, characters_one, characters_most, used_one, used_append}
 use Rattle.video.specs.declared.cell.PaintedCell.{PaintedCell}
 use Rattle.video.specs.declared.line.PaintedLine.{PaintedLine}
@@ -95,9 +95,9 @@ module _ (ram : Ram) (counter line mode : ℕ) where
     few = omega (arith, here.characters, characters_most (first column), cells_length ram counter line mode column)
 
     pub all : column ≡ columns
-        → (◌≡◌ {A = PaintedLine} (record { registers = registers; character = character }) (painted_line ram counter line mode))
+        → (◌≡◌ {A = PaintedLine} (record { registers = registers; screen = columns; character = character }) (painted_line ram counter line mode))
         × (cells ≡ colours (line_cells ram counter line mode))
     all end = (
-      rw (here.path, here.characters, end) refl,
+      rw (here.path, here.characters, end, line_uses_screen_bytes ram counter line mode) refl,
       sym (take_all column cells (omega arith)) ∙ here.filled ∙ ap (λ (n : ℕ). colours (first n)) end,
     )

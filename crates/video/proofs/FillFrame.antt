@@ -22,7 +22,7 @@ use Rattle.video.specs.Line.{line_cells}
 use Rattle.video.specs.Ram.{Ram}
 use Rattle.video.specs.State.{with_profile, after_frame}
 use Rattle.video.proofs.Frames.{lines_next, characters_down, mode_next, mode_down, frame_uses_screen_bytes}
-use Rattle.video.proofs.Lines.{line_pixels}
+use Rattle.video.proofs.Lines.{line_pixels, line_uses_screen_bytes}
 use Rattle.video.proofs.Readings.{pixels_append, characters_append, used_append}
 use Rattle.video.specs.declared.line.PaintedLine.{PaintedLine}
 use Rattle.video.specs.declared.registers.Registers.{Registers}
@@ -35,15 +35,16 @@ module _ (image : Image) (state : State) where
   abbrev first : ℕ → List Cell
   first = first_lines ram state.counter state.mode
 
-  pub record Reached (frame : List ℕ) (registers : Registers) (character line : ℕ) : Type 0 where
+  pub record Reached (frame : List ℕ) (registers : Registers) (screen character line : ℕ) : Type 0 where
     pub size : length frame ≡ frame_length
     pub filled : take (line_length * line) frame ≡ pixels (first line)
     pub path : registers.mode ≡ mode_before ram state.mode line
+    pub screens : screen ≡ columns * line
     pub characters : character ≡ length (character_addresses (first line))
 
-  pub none : (frame : List ℕ) (registers : Registers) → length frame ≡ frame_length → registers.mode ≡ state.mode → Reached frame registers 0 0
+  pub none : (frame : List ℕ) (registers : Registers) → length frame ≡ frame_length → registers.mode ≡ state.mode → Reached frame registers 0 0 0
   unfolding first_lines gather mode_after_lines pixels flatten character_addresses flat_map
-  none frame registers size mode = record { size = size; filled = refl; path = mode; characters = refl }
+  none frame registers size mode = record { size = size; filled = refl; path = mode; screens = refl; characters = refl }
 
   -- where addresses are marked, those of the lines before a line are
   abbrev pub Marked : Bool → ℕ → List ℕ → List ℕ → Type 0
@@ -54,12 +55,12 @@ module _ (image : Image) (state : State) where
   none_marked true marks bytes = marked_none marks bytes
   none_marked false marks bytes = refl
 
-  module _ (frame : List ℕ) (registers : Registers) (character line : ℕ) (here : Reached frame registers character line) where
+  module _ (frame : List ℕ) (registers : Registers) (screen character line : ℕ) (here : Reached frame registers screen character line) where
     pub next : line < lines → (part : List ℕ) (answer : PaintedLine)
         → part ≡ pixels (line_cells ram state.counter line registers.mode)
         → answer ≡ painted_line ram state.counter line registers.mode
         → Reached (put_mid (line_length * line) (line_length * line + line_length - line_length * line) frame part) answer.registers
-        (character + answer.character) (line + 1)
+        (screen + answer.screen) (character + answer.character) (line + 1)
     next more part answer p e =
         let mode = mode_before ram state.mode line in
         let cells = line_of ram state.counter state.mode line in
@@ -72,6 +73,7 @@ module _ (image : Image) (state : State) where
           size = piece_length line_length line frame fits part size ∙ here.size;
           filled = piece_done line_length line frame fits part size ∙ ap₂ ◌++◌ here.filled pixels-are ∙ sym (ap pixels grown ∙ pixels_append (first line) cells);
           path = ap (λ (a : PaintedLine). a.registers.mode) is ∙ sym (mode_next ram state.mode line);
+          screens = omega (arith, here.screens, ap (λ (a : PaintedLine). a.screen) is, line_uses_screen_bytes ram state.counter line mode);
           characters =
               ap₂ (λ (n : ℕ) (a : PaintedLine). n + a.character) here.characters is
               ∙ sym (ap (λ (l : List Cell). length (character_addresses l)) grown ∙ characters_append (first line) cells);
@@ -94,9 +96,9 @@ module _ (image : Image) (state : State) where
     next_marked false before marks after m a = a ∙ m
 
     pub all : line ≡ lines
-        → (answered (after_frame state) registers.mode (columns * lines) character ≡ painted (after_frame state) (frame_cells image (with_profile 1 state)))
+        → (answered (after_frame state) registers.mode screen character ≡ painted (after_frame state) (frame_cells image (with_profile 1 state)))
         × (frame ≡ pixels (frame_cells image (with_profile 1 state)))
     all end = (
-      rw (here.path, here.characters, end, mode_down ram state.counter state.mode lines, frame_uses_screen_bytes image (with_profile 1 state)) refl,
+      rw (here.path, here.screens, here.characters, end, mode_down ram state.counter state.mode lines, frame_uses_screen_bytes image (with_profile 1 state)) refl,
       sym (take_all (line_length * line) frame (omega arith)) ∙ here.filled ∙ ap (λ (n : ℕ). pixels (first n)) end,
     )

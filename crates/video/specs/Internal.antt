@@ -10,7 +10,7 @@ use Rattle.machine.specs.Image.{Image, block_length, folded}
 use Rattle.machine.specs.Sizes.{columns}
 use Rattle.used_map.specs.Map.{byte_bits}
 use Rattle.video.specs.Address.{video_block}
-use Rattle.video.specs.Cell.{Cell, character_addresses}
+use Rattle.video.specs.Cell.{Cell, screen_addresses, character_addresses}
 use Rattle.video.specs.Line.{registers_before, line_cells}
 use Rattle.video.specs.Pattern.{pattern_weights, pattern_colours, complemented}
 use Rattle.video.specs.Ram.{Ram}
@@ -60,6 +60,7 @@ painted_line ram counter line mode =
     let cells = line_cells ram counter line mode in
     record {
       registers = registers_before ram line mode columns;
+      screen = length (screen_addresses cells);
       character = length (character_addresses cells);
     }
 

@@ -81,6 +81,7 @@ impl Source<'_> {
     {
         let starts = line_starts();
         let mut registers = Registers::at_line_start(u64::from(self.state.mode));
+        let mut screen = 0;
         let mut character = 0;
         for line in 0..LINES {
             let from = LINE_LENGTH * line;
@@ -91,13 +92,9 @@ impl Source<'_> {
                 marks,
             );
             registers = painted.registers;
+            screen += painted.screen;
             character += painted.character;
         }
-        answer(
-            self.state.after_frame(),
-            registers,
-            COLUMNS * LINES,
-            character,
-        )
+        answer(self.state.after_frame(), registers, screen, character)
     }
 }

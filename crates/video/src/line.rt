@@ -19,10 +19,11 @@ use card::line_starts;
 use machine::{COLUMNS, LINE_LENGTH, Refusal, check_line, check_output};
 use used_map::MAP_LENGTH;
 
-// The registers that a line leaves, and how many character bytes it used. It used forty screen bytes.
+// The registers that a line leaves, and how many screen bytes and character bytes it used.
 #[derive(Clone, Copy)]
 pub(crate) struct PaintedLine {
     pub registers: Registers,
+    pub screen: usize,
     pub character: usize,
 }
 
@@ -112,7 +113,12 @@ impl Source<'_> {
         let starts = line_starts();
         let scanline = Scanline::new(&starts, line);
         let painted = self.fill_line::<MARKED>(scanline, before, output, marks);
-        answer(self.state, painted.registers, COLUMNS, painted.character)
+        answer(
+            self.state,
+            painted.registers,
+            painted.screen,
+            painted.character,
+        )
     }
 
     pub(crate) fn fill_line<const MARKED: bool>(
@@ -157,6 +163,7 @@ impl Source<'_> {
         }
         PaintedLine {
             registers,
+            screen: cells.len(),
             character,
         }
     }

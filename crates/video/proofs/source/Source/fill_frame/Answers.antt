@@ -16,14 +16,23 @@ loop-line-init g c = record {
   marks = none_marked c.args.self.block.now c.args.self.state (not (eqb g.row.MARKED 0)) c.args.marks.now (λ k. (c.type_inv.marks k).fits);
 }
 
+pub overflow_add-screen : goal.overflow_add-screen
+overflow_add-screen g c =
+    let here = c.loop-line in
+    let painted = c.fill_line-painted in
+    let filled = rw c.new.ensures at painted.ensures.output_after in
+    let counted = rw c.new.ensures at painted.ensures.value in
+    let grown = next _ _ _ _ _ _ _ here.invariant.done (omega arith) painted.new.output painted.result filled counted in
+    record { fits = omega (arith, grown.screens) }
+
 pub overflow_add-character : goal.overflow_add-character
 overflow_add-character g c =
     let here = c.loop-line in
     let painted = c.fill_line-painted in
     let filled = rw c.new.ensures at painted.ensures.output_after in
     let counted = rw c.new.ensures at painted.ensures.value in
-    let grown = next _ _ _ _ _ _ here.invariant.done (omega arith) painted.new.output painted.result filled counted in
-    record { fits = omega (arith, few _ _ _ _ _ _ grown) }
+    let grown = next _ _ _ _ _ _ _ here.invariant.done (omega arith) painted.new.output painted.result filled counted in
+    record { fits = omega (arith, few _ _ _ _ _ _ _ grown) }
 
 pub loop-line-preserved : goal.loop-line-preserved
 loop-line-preserved g c =
@@ -32,8 +41,8 @@ loop-line-preserved g c =
     let filled = rw c.new.ensures at painted.ensures.output_after in
     let counted = rw c.new.ensures at painted.ensures.value in
     let marked = rw c.new.ensures at painted.ensures.marks_after in record {
-      done = next _ _ _ _ _ _ here.invariant.done (omega arith) painted.new.output painted.result filled counted;
-      marks = next_marked _ _ _ _ _ _ here.invariant.done (not (eqb g.row.MARKED 0)) _ here.marks _ here.invariant.marks marked;
+      done = next _ _ _ _ _ _ _ here.invariant.done (omega arith) painted.new.output painted.result filled counted;
+      marks = next_marked _ _ _ _ _ _ _ here.invariant.done (not (eqb g.row.MARKED 0)) _ here.marks _ here.invariant.marks marked;
     }
 
 pub answer-requires-clause-mode_le_last_mode : goal.answer-requires-clause-mode_le_last_mode
@@ -42,14 +51,14 @@ answer-requires-clause-mode_le_last_mode g c =
     (modes_small (block_ram c.args.self.block.now) c.args.self.state.mode c.args.self.is_within.mode c.loop-line.line)
 
 pub answer-requires-clause-screen_bound : goal.answer-requires-clause-screen_bound
-answer-requires-clause-screen_bound g c = (omega arith, omega (arith, few _ _ _ _ _ _ c.loop-line.invariant.done))
+answer-requires-clause-screen_bound g c = (omega (arith, c.loop-line.invariant.done.screens), omega (arith, few _ _ _ _ _ _ _ c.loop-line.invariant.done))
 
 pub returns-clause-value : goal.returns-clause-value
 returns-clause-value g c =
-    c.answer.ensures ∙ rw c.after_frame.ensures (all _ _ _ _ _ _ c.loop-line.invariant.done (omega arith)).0
+    c.answer.ensures ∙ rw c.after_frame.ensures (all _ _ _ _ _ _ _ c.loop-line.invariant.done (omega arith)).0
 
 pub returns-clause-frame_after : goal.returns-clause-frame_after
-returns-clause-frame_after g c = (all _ _ _ _ _ _ c.loop-line.invariant.done (omega arith)).1
+returns-clause-frame_after g c = (all _ _ _ _ _ _ _ c.loop-line.invariant.done (omega arith)).1
 
 pub returns-clause-marks_after : goal.returns-clause-marks_after
 returns-clause-marks_after g c = let end : c.loop-line.line ≡ lines = omega arith in rw end at c.loop-line.invariant.marks

@@ -5,6 +5,6 @@ use Rattle.video.proofs.source.Source.fill_frame.Given as goal
 
 abbrev pub invariant-loop-line : goal.invariant-loop-line
 invariant-loop-line g l = record {
-  done : Reached l.self.block.now l.self.state l.frame l.registers l.character l.line;
+  done : Reached l.self.block.now l.self.state l.frame l.registers l.screen l.character l.line;
   marks : Marked l.self.block.now l.self.state (not (eqb g.row.MARKED 0)) l.line l.fn.marks l.marks;
 }

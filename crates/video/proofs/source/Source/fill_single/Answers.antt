@@ -22,8 +22,9 @@ answer-requires-clause-screen_bound g c =
     let counter = c.args.self.state.counter in
     let line = c.new-scanline.result.number in
     let mode = c.at_line_start-before.result.mode in
+    let screens = ap (λ (p : PaintedLine). p.screen) c.fill_line-painted.ensures.value in
     let characters = ap (λ (p : PaintedLine). p.character) c.fill_line-painted.ensures.value in
-    (omega arith, omega (arith, characters, characters_most (line_cells ram counter line mode), cells_length ram counter line mode columns))
+    (omega (arith, screens, line_uses_screen_bytes ram counter line mode), omega (arith, characters, characters_most (line_cells ram counter line mode), cells_length ram counter line mode columns))
 
 pub returns-clause-value : goal.returns-clause-value
 returns-clause-value g c =
@@ -31,8 +32,4 @@ returns-clause-value g c =
     let mode : c.at_line_start-before.result.mode ≡ c.args.self.state.mode = ap (λ (r : Registers). r.mode) c.at_line_start-before.ensures ∙ c.from.ensures in
     c.answer.ensures
     ∙ rw (c.fill_line-painted.ensures.value, c.new-scanline.ensures, mode)
-    (rw (
-      ← mode_after (block_ram c.args.self.block.now) state.counter c.args.line state.mode columns,
-      line_uses_screen_bytes (block_ram c.args.self.block.now) state.counter c.args.line state.mode,
-    )
-    refl)
+    (rw (← mode_after (block_ram c.args.self.block.now) state.counter c.args.line state.mode columns) refl)
