@@ -56,16 +56,16 @@ module _ (image : Image) (state : State) where
   none_marked false marks bytes = refl
 
   module _ (frame : List ℕ) (registers : Registers) (screen character line : ℕ) (here : Reached frame registers screen character line) where
-    pub next : line < lines → (part : List ℕ) (answer : PaintedLine)
-        → part ≡ pixels (line_cells ram state.counter line registers.mode)
-        → answer ≡ painted_line ram state.counter line registers.mode
+    pub next : line < lines → (number : ℕ) → number ≡ line → (part : List ℕ) (answer : PaintedLine)
+        → part ≡ pixels (line_cells ram state.counter number registers.mode)
+        → answer ≡ painted_line ram state.counter number registers.mode
         → Reached (put_mid (line_length * line) (line_length * line + line_length - line_length * line) frame part) answer.registers
         (screen + answer.screen) (character + answer.character) (line + 1)
-    next more part answer p e =
+    next more number here-is part answer p e =
         let mode = mode_before ram state.mode line in
         let cells = line_of ram state.counter state.mode line in
-        let pixels-are : part ≡ pixels cells = p ∙ ap (λ (m : ℕ). pixels (line_cells ram state.counter line m)) here.path in
-        let is : answer ≡ painted_line ram state.counter line mode = e ∙ ap (painted_line ram state.counter line) here.path in
+        let pixels-are : part ≡ pixels cells = p ∙ ap₂ (λ (l m : ℕ). pixels (line_cells ram state.counter l m)) here-is here.path in
+        let is : answer ≡ painted_line ram state.counter line mode = e ∙ ap₂ (painted_line ram state.counter) here-is here.path in
         let size : length part ≡ line_length = ap length pixels-are ∙ line_pixels ram state.counter line mode in
         let fits : line_length * line + line_length ≤ length frame = omega arith in
         let grown = lines_next ram state.counter state.mode line in
@@ -84,16 +84,17 @@ module _ (image : Image) (state : State) where
     few = omega (arith, here.characters, characters_down ram state.counter state.mode line)
 
     -- the line's addresses are marked after those of the lines before it
-    pub next_marked : (marking : Bool) (before marks after : List ℕ) → Marked marking line before marks
-        → after ≡ cond marking (marked marks (used (line_cells ram state.counter line registers.mode))) marks
+    pub next_marked : (number : ℕ) → number ≡ line → (marking : Bool) (before marks after : List ℕ) → Marked marking line before marks
+        → after ≡ cond marking (marked marks (used (line_cells ram state.counter number registers.mode))) marks
         → Marked marking (line + 1) before after
-    next_marked true before marks after m a =
+    next_marked number here-is true before marks after m a =
         let cells = line_of ram state.counter state.mode line in
         a
-        ∙ ap₂ (λ (l : List ℕ) (mode : ℕ). marked l (used (line_cells ram state.counter line mode))) m here.path
+        ∙ ap₂ (λ (l : List ℕ) (n : ℕ). marked l (used (line_cells ram state.counter n registers.mode))) m here-is
+        ∙ ap (λ (mode : ℕ). marked (marked before (used (first line))) (used (line_cells ram state.counter line mode))) here.path
         ∙ marks_join before (used (first line)) (used cells)
         ∙ ap (marked before) (sym (ap used (lines_next ram state.counter state.mode line) ∙ used_append (first line) cells))
-    next_marked false before marks after m a = a ∙ m
+    next_marked number here-is false before marks after m a = a ∙ m
 
     pub all : line ≡ lines
         → (answered (after_frame state) registers.mode screen character ≡ painted (after_frame state) (frame_cells image (with_profile 1 state)))

@@ -41,6 +41,7 @@ const DOUBLE_HEIGHT: u64 = 2;
 #[repr(C)]
 #[derive(Clone, Copy)]
 pub struct Address {
+    // 0, or the number of the refusal: a record of the C interface.
     pub status: u8,
     pub address: u16,
 }

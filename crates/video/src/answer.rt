@@ -12,7 +12,7 @@ use machine::{DONE, Refusal, check_counter, check_image, check_mode, check_outpu
 #[repr(C)]
 #[derive(Clone, Copy)]
 pub struct Painted {
-    // 0, or the refusal.
+    // 0, or the number of the refusal: a record of the C interface.
     pub status: u8,
     pub state: State,
     // How many screen bytes and how many character bytes were used.

@@ -7,13 +7,13 @@ ghost use Rattle.video.specs.Internal.{block_ram, painted_cell};
 use crate::address::Scanline;
 use crate::registers::{Registers, is_attribute};
 use crate::source::Source;
-use machine::choose;
+use machine::{CELL_LENGTH, choose};
 
 // The registers that a cell leaves, its colours, and what it used: where its screen byte is, and where its character byte, if it used one.
 #[derive(Clone, Copy)]
 pub(crate) struct PaintedCell {
     pub registers: Registers,
-    pub colours: [u8; 6],
+    pub colours: [u8; CELL_LENGTH],
     pub screen: usize,
     pub character: Option<usize>,
 }

@@ -16,7 +16,7 @@ use crate::registers::Registers;
 use crate::source::Source;
 use crate::state::State;
 use card::line_starts;
-use machine::{COLUMNS, LINE_LENGTH, Refusal, check_line, check_output};
+use machine::{CELL_LENGTH, COLUMNS, LINE_LENGTH, Refusal, check_line, check_output};
 use used_map::MAP_LENGTH;
 
 // The registers that a line leaves, and how many screen bytes and character bytes it used.
@@ -133,7 +133,7 @@ impl Source<'_> {
         ensures output_after { output.new ≡ pixels (line_cells (block_ram self.entry.block.now) self.entry.state.counter line.number before.mode) }
         ensures marks_after { marks.new ≡ cond MARKED (marked marks.old (used (line_cells (block_ram self.entry.block.now) self.entry.state.counter line.number before.mode))) marks.old }
     {
-        let mut cells = [[0u8; 6]; 40];
+        let mut cells = [[0u8; CELL_LENGTH]; COLUMNS];
         let painted = self.paint_cells::<MARKED>(line, before, &mut cells, marks);
         output.copy_from_slice(cells.as_flattened());
         painted
@@ -143,7 +143,7 @@ impl Source<'_> {
         self,
         line: Scanline,
         before: Registers,
-        cells: &mut [[u8; 6]; 40],
+        cells: &mut [[u8; CELL_LENGTH]; COLUMNS],
         marks: &mut [u8],
     ) -> PaintedLine
         ensures value { result ≡ painted_line (block_ram self.entry.block.now) self.entry.state.counter line.number before.mode }

@@ -4,7 +4,7 @@ ghost use Rattle.video.specs.Internal.{shown};
 ghost use Rattle.video.specs.Registers.{line_reset, is_attribute, latched, shown_ink};
 
 use crate::pattern::pixels;
-use machine::{bit, choose};
+use machine::{CELL_LENGTH, bit, choose};
 use std::marker::Model;
 
 const WHITE: u64 = 7;
@@ -82,7 +82,7 @@ impl Registers {
     }
 
     // The six pixels of a pattern, which is the low six bits of a byte, under a screen byte.
-    pub(crate) fn paint_colours(self, counter: u8, pattern: u8, byte: u8) -> [u8; 6]
+    pub(crate) fn paint_colours(self, counter: u8, pattern: u8, byte: u8) -> [u8; CELL_LENGTH]
         ensures { result ≡ shown self counter byte pattern }
     {
         pixels(self.shown_ink(counter), self.paper, pattern, byte)

@@ -7,6 +7,7 @@ use machine::{LAST_COUNT, PROFILE_48K};
 
 const FRESH_MODE: u8 = 2;
 
+// Numbers and no kinds: a record of the C interface, in which a caller may hand in any.
 #[repr(C)]
 #[derive(Clone, Copy)]
 pub struct State {

@@ -18,31 +18,24 @@ loop-line-init g c = record {
 
 pub overflow_add-screen : goal.overflow_add-screen
 overflow_add-screen g c =
-    let here = c.loop-line in
-    let painted = c.fill_line-painted in
-    let filled = rw c.new.ensures at painted.ensures.output_after in
-    let counted = rw c.new.ensures at painted.ensures.value in
-    let grown = next _ _ _ _ _ _ _ here.invariant.done (omega arith) painted.new.output painted.result filled counted in
+    let is = c.fill_line-painted.ensures in
+    let grown = next _ _ _ _ _ _ _ c.loop-line.invariant.done (omega arith) _ c.new.ensures _ _ is.output_after is.value in
     record { fits = omega (arith, grown.screens) }
 
 pub overflow_add-character : goal.overflow_add-character
 overflow_add-character g c =
-    let here = c.loop-line in
-    let painted = c.fill_line-painted in
-    let filled = rw c.new.ensures at painted.ensures.output_after in
-    let counted = rw c.new.ensures at painted.ensures.value in
-    let grown = next _ _ _ _ _ _ _ here.invariant.done (omega arith) painted.new.output painted.result filled counted in
+    let is = c.fill_line-painted.ensures in
+    let grown = next _ _ _ _ _ _ _ c.loop-line.invariant.done (omega arith) _ c.new.ensures _ _ is.output_after is.value in
     record { fits = omega (arith, few _ _ _ _ _ _ _ grown) }
 
 pub loop-line-preserved : goal.loop-line-preserved
 loop-line-preserved g c =
     let here = c.loop-line in
-    let painted = c.fill_line-painted in
-    let filled = rw c.new.ensures at painted.ensures.output_after in
-    let counted = rw c.new.ensures at painted.ensures.value in
-    let marked = rw c.new.ensures at painted.ensures.marks_after in record {
-      done = next _ _ _ _ _ _ _ here.invariant.done (omega arith) painted.new.output painted.result filled counted;
-      marks = next_marked _ _ _ _ _ _ _ here.invariant.done (not (eqb g.row.MARKED 0)) _ here.marks _ here.invariant.marks marked;
+    let is = c.fill_line-painted.ensures in record {
+      done = next _ _ _ _ _ _ _ here.invariant.done (omega arith) _ c.new.ensures _ _ is.output_after is.value;
+      marks =
+          next_marked _ _ _ _ _ _ _ here.invariant.done _ c.new.ensures (not (eqb g.row.MARKED 0)) _ here.marks _ here.invariant.marks
+          is.marks_after;
     }
 
 pub answer-requires-clause-mode_le_last_mode : goal.answer-requires-clause-mode_le_last_mode
