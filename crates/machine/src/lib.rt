@@ -46,5 +46,5 @@ pub const LAST_PROFILE: u8 = 1;
 // The most records in a trace.
 pub const LONGEST_TRACE: usize = 1_024;
 
-// The status of an answer is this where the call is done, else the number of the first refusal that applies.
+// The status of a record of the C interface is this where the call is done, else the number of the first refusal that applies.
 pub const DONE: u8 = 0;

@@ -29,7 +29,8 @@ impl Refusal {
     }
 }
 
-// What the checks share; each of them names its limit and its refusal once.
+// What the checks share. They stay apart, since each has its limit and its refusal in one place: one check for all would have the two at
+// every call.
 fn refuse_if(applies: bool, reason: Refusal) -> Result<(), Refusal>
     ensures { status_of result ≡ refusal (check_of reason applies ∷ []) }
 {
