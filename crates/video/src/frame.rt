@@ -32,7 +32,7 @@ pub fn paint_frame(memory: &[u8], state: State, frame: &mut [u8]) -> Painted
     }
 }
 
-// Refusals 12, 1, 2 for the frame.
+// Refusals 12, 1, 2 for the frame. The checks take what C hands to the entry points, as these do.
 fn check_lent(memory: &[u8], state: State, frame: &[u8]) -> Result<(), Refusal>
     ensures { status_of result ≡ refusal (frame_checks memory.now state frame.now) }
 {

@@ -41,7 +41,7 @@ pub fn paint_line(memory: &[u8], state: State, line: usize, output: &mut [u8]) -
     }
 }
 
-// Refusals 12, 1, 2 for the line.
+// Refusals 12, 1, 2 for the line. The checks take what C hands to the entry points, as these do.
 fn check_lent(memory: &[u8], state: State, output: &[u8]) -> Result<(), Refusal>
     ensures { status_of result ≡ refusal (line_checks memory.now state output.now) }
 {
@@ -94,7 +94,8 @@ fn check_mapped(
     check_line(line)
 }
 
-// MARKED says whether the used addresses are marked: without marks nothing is asked in a cell, and no map is lent.
+// MARKED says whether the used addresses are marked: without marks nothing is asked in a cell, and no map is lent. The line stays while
+// the registers go from cell to cell, so the two are no struct.
 impl Source<'_> {
     // A line by itself, which begins in the mode of the state.
     fn fill_single<const MARKED: bool>(

@@ -28,7 +28,7 @@ pub(crate) struct Registers {
     pub mode: u64,
 }
 
-// Clauses see what the four hold. Ink and paper are always colours.
+// Ink and paper are always colours. A model and no ghost field: the rules speak of any four numbers, with no proof beside them.
 impl Model for Registers {
     ghost use Rattle.std.specs.Prelude.{◌≤◌};
     ghost use Rattle.video.specs.Held.{Held};
