@@ -15,7 +15,7 @@ use crate::registers::Registers;
 use crate::source::Source;
 use crate::state::State;
 use card::line_starts;
-use machine::{COLUMNS, FRAME_LENGTH, LINE_LENGTH, LINES, Refusal, check_output};
+use machine::{FRAME_LENGTH, LINE_LENGTH, LINES, Refusal, check_output};
 use used_map::MAP_LENGTH;
 
 // One painted frame. Refusals 12, 1, 2, 3, 4.
