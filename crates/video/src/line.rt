@@ -1,7 +1,7 @@
 // One line: forty cells from left to right, then their pixels where they belong.
 ghost use Rattle.std.specs.Prelude.{◌≡◌, ◌<◌, cond, map, length};
 ghost use Rattle.machine.specs.Refusal.{status_of, refusal};
-ghost use Rattle.machine.specs.Sizes.{columns, lines, line_length};
+ghost use Rattle.machine.specs.Sizes.{lines, line_length};
 ghost use Rattle.used_map.specs.Map.{marked};
 ghost use Rattle.video.specs.Answer.{painted, cells_of_line, line_checks, line_refusal, line_answer, line_contents, mapped_line_refusal, mapped_line_answer, mapped_line_contents, mapped_line_map};
 ghost use Rattle.video.specs.Cell.{Cell, pixels, used};
