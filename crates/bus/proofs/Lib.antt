@@ -1,4 +1,2 @@
 pub mod Held
-pub mod Rows
 pub mod Stores
-pub mod Walks

@@ -4,7 +4,7 @@ use Rattle.std.specs.Prelude.{ℕ, ◌<◌, Bool, true, cond, ◌||◌, List, []
 use Rattle.machine.specs.Image.{Image, byte_at, with_byte}
 use Rattle.machine.specs.Refusal.{Check, refusal, if_done, memory_check, kind_check, profile_check, controller_check}
 use Rattle.bus.specs.Latch.{latches_after}
-use Rattle.bus.specs.Place.{place}
+use Rattle.bus.specs.Place.{target_number, place}
 use Rattle.bus.specs.declared.cycle.Access.{Access}
 use Rattle.bus.specs.declared.cycle.Written.{Written}
 use Rattle.bus.specs.declared.latch.Latches.{Latches}
@@ -12,7 +12,7 @@ use Rattle.bus.specs.declared.place.Place.{Place}
 
 -- targets 0 and 4 hold bytes of the memory
 abbrev pub is_memory : Place → Bool
-is_memory reached = eqb reached.target 0 || eqb reached.target 4
+is_memory reached = eqb (target_number reached.target) 0 || eqb (target_number reached.target) 4
 
 -- the memory has the byte of a place that is one of its bytes
 abbrev pub Held : Image → Place → Type 0
@@ -26,20 +26,19 @@ fetched memory reached = cond (is_memory reached) (byte_at memory reached.number
 abbrev pub stored : Image → Place → ℕ → Image
 stored memory reached byte = cond (is_memory reached) (with_byte memory reached.number byte) memory
 
--- refusals 12, 1, 7, 13, by the profile, the length of the memory and the kind
-abbrev pub access_refusal : ℕ → ℕ → ℕ → ℕ
-access_refusal profile size kind =
-    refusal (profile_check profile ∷ memory_check profile size ∷ kind_check kind ∷ controller_check profile kind ∷ [])
-
--- the checks of an access, as a list that a call of many accesses has before its own
+-- the checks of an access, which a call of many accesses has before its own
 abbrev pub access_checks : ℕ → ℕ → ℕ → List Check
 access_checks profile size kind =
     profile_check profile ∷ memory_check profile size ∷ kind_check kind ∷ controller_check profile kind ∷ []
 
+-- refusals 12, 1, 7, 13, by the profile, the length of the memory and the kind
+abbrev pub access_refusal : ℕ → ℕ → ℕ → ℕ
+access_refusal profile size kind = refusal (access_checks profile size kind)
+
 -- what every access answers: target, number and byte, each 0 where it is refused
 abbrev pub access_answer : ℕ → Place → ℕ → Access
 access_answer status reached byte =
-    if_done status (record { status = 0; target = reached.target; number = reached.number; byte = byte })
+    if_done status (record { status = 0; target = target_number reached.target; number = reached.number; byte = byte })
     (record { status = status; target = 0; number = 0; byte = 0 })
 
 -- a read gives the byte of its place, and changes nothing

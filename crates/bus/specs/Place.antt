@@ -7,34 +7,46 @@ use Rattle.machine.specs.Refusal.{refusal, if_done, kind_check, profile_check, c
 use Rattle.bus.specs.declared.latch.Latches.{Latches}
 use Rattle.bus.specs.declared.place.Decoded.{Decoded}
 use Rattle.bus.specs.declared.place.Place.{Place}
+use Rattle.bus.specs.declared.place.Target.{Target}
+use Rattle.bus.specs.declared.place.Target.TheVariants.{Ram, Via, Controller, BasicRom, OverlayRam, BootEprom, Unassigned}
+
+-- the number of a target (document 01: target)
+abbrev pub target_number : Target → ℕ
+target_number Ram = 0
+target_number Via = 1
+target_number Controller = 2
+target_number BasicRom = 3
+target_number OverlayRam = 4
+target_number BootEprom = 5
+target_number Unassigned = 6
 
 -- target 0, RAM: the number is the folded address
 abbrev pub ram : ℕ → ℕ → Place
-ram profile address = record { target = 0; number = folded profile address }
+ram profile address = record { target = Ram; number = folded profile address }
 
 -- target 1, VIA: the number is the register
 abbrev pub via : ℕ → Place
-via address = record { target = 1; number = address % 16 }
+via address = record { target = Via; number = address % 16 }
 
 -- target 2, controller: the number counts from 0300
 abbrev pub controller : ℕ → Place
-controller address = record { target = 2; number = address - 0x300 }
+controller address = record { target = Controller; number = address - 0x300 }
 
 -- target 3, BASIC ROM: the number counts from C000
 abbrev pub basic_rom : ℕ → Place
-basic_rom address = record { target = 3; number = address - 0xC000 }
+basic_rom address = record { target = BasicRom; number = address - 0xC000 }
 
 -- target 4, overlay RAM: the number is the address
 abbrev pub overlay_ram : ℕ → Place
-overlay_ram address = record { target = 4; number = address }
+overlay_ram address = record { target = OverlayRam; number = address }
 
 -- target 5, boot EPROM: the number counts from its start
 abbrev pub boot_eprom : ℕ → ℕ → Place
-boot_eprom start address = record { target = 5; number = address - start }
+boot_eprom start address = record { target = BootEprom; number = address - start }
 
 -- target 6, unassigned: the number counts from 0300
 abbrev pub unassigned : ℕ → Place
-unassigned address = record { target = 6; number = address - 0x300 }
+unassigned address = record { target = Unassigned; number = address - 0x300 }
 
 -- where the boot EPROM begins: the Microdisc's has 8K, the Jasmin's 16K
 abbrev pub eprom_start_8k : ℕ
@@ -102,5 +114,5 @@ unfoldable pub decode_answer : ℕ → Latches → ℕ → Decoded
 decode_answer profile latches address =
     let status = decode_refusal profile latches.kind in
     let reached = place profile latches address in
-    if_done status (record { status = 0; target = reached.target; number = reached.number })
+    if_done status (record { status = 0; target = target_number reached.target; number = reached.number })
     (record { status = status; target = 0; number = 0 })

@@ -1,11 +1,14 @@
 // One read or write of the bus.
-ghost use Rattle.std.specs.Prelude.{◌≡◌};
-ghost use Rattle.bus.specs.Cycle.{Held, is_memory, fetched, stored, access_refusal, read_answer, write_answer, write_contents, write_latches, written};
+ghost use Rattle.std.specs.Prelude.{◌≡◌, IfOk};
+ghost use Rattle.machine.specs.Controller.{kind_of};
+ghost use Rattle.machine.specs.Refusal.{number_of, status_of};
+ghost use Rattle.bus.specs.Cycle.{Held, is_memory, fetched, stored, access_refusal, access_answer, read_answer, write_answer, write_contents, write_latches, written};
 
 use crate::latch::Latches;
-use crate::place::{Place, TARGET_OVERLAY_RAM, TARGET_RAM, reach};
-use machine::{DONE, controller_refusal, kind_refusal, memory_refusal, profile_refusal};
+use crate::place::{Place, Target, controller_of, reach};
+use machine::{Controller, DONE, Refusal, check_image};
 
+// C reads it: status and target are numbers.
 #[repr(C)]
 #[derive(Clone, Copy)]
 pub struct Access {
@@ -16,6 +19,7 @@ pub struct Access {
     pub byte: u8,
 }
 
+// C reads it: the fields of `Access` and the latches in one record.
 #[repr(C)]
 #[derive(Clone, Copy)]
 pub struct Written {
@@ -26,61 +30,93 @@ pub struct Written {
     pub latches: Latches,
 }
 
-// A read changes nothing. Refusals 12, 1, 7, 13.
+// A read changes nothing. Refusals 12, 1, 7, 13. Inlined: as a call, an access of a trace takes a fifth longer.
+#[inline(always)]
+#[tactic(auto, using(machine::proofs::Refusals::by_number, crate::proofs::Held::accepted_held), unfolding(crate::specs::Cycle::read_answer))]
 pub fn read(memory: &[u8], profile: u8, latches: Latches, address: u16) -> Access
     ensures { result ≡ read_answer memory.now profile latches address }
 {
-    let status = access_refusal(profile, memory.len(), latches.kind);
-    if status != DONE {
-        return Access {
-            status,
-            target: 0,
-            number: 0,
-            byte: 0,
-        };
-    }
-    let reached = reach(profile, latches, address);
-    let byte = fetch(memory, reached);
-    Access {
-        status,
-        target: reached.target,
-        number: reached.number,
-        byte,
+    match check_access(profile, memory.len(), latches.kind) {
+        Ok(controller) => {
+            let reached = reach(profile, controller, latches, address);
+            Access::done(reached, fetch(memory, reached))
+        }
+        Err(refusal) => Access::refused(refusal),
     }
 }
 
-// A write stores at most one byte, or sets one latch. Refusals 12, 1, 7, 13.
+// As `write_in_place`, with the latches handed in and back. Refusals 12, 1, 7, 13.
 pub fn write(memory: &mut [u8], profile: u8, latches: Latches, address: u16, byte: u8) -> Written
     ensures value { result ≡ written (write_answer memory.old profile latches address) (write_latches memory.old profile latches address byte) }
     ensures memory_after { memory.new ≡ write_contents memory.old profile latches address byte }
 {
-    let status = access_refusal(profile, memory.len(), latches.kind);
-    if status != DONE {
-        return Written {
-            status,
-            target: 0,
-            number: 0,
-            byte: 0,
-            latches,
-        };
-    }
-    let reached = reach(profile, latches, address);
-    store(memory, reached, byte);
-    let after = latches.after_write(address, byte);
+    let mut left = latches;
+    let answer = write_in_place(memory, profile, &mut left, address, byte);
     Written {
-        status,
-        target: reached.target,
-        number: reached.number,
-        byte: 0,
-        latches: after,
+        status: answer.status,
+        target: answer.target,
+        number: answer.number,
+        byte: answer.byte,
+        latches: left,
     }
 }
 
-fn access_refusal(profile: u8, size: usize, kind: u8) -> u8
-    ensures { result ≡ access_refusal profile size kind }
+// A write stores at most one byte, or sets one latch of the lent record. Refusals 12, 1, 7, 13. Inlined, as `read` is.
+#[inline(always)]
+#[tactic(auto, using(machine::proofs::Refusals::by_number, crate::proofs::Held::accepted_held), unfolding(crate::specs::Cycle::write_answer, crate::specs::Cycle::write_contents, crate::specs::Cycle::write_latches))]
+pub fn write_in_place(
+    memory: &mut [u8],
+    profile: u8,
+    latches: &mut Latches,
+    address: u16,
+    byte: u8,
+) -> Access
+    ensures value { result ≡ write_answer memory.old profile latches.old address }
+    ensures memory_after { memory.new ≡ write_contents memory.old profile latches.old address byte }
+    ensures latches_after { latches.new ≡ write_latches memory.old profile latches.old address byte }
 {
-    let wrong_controller = kind_refusal(kind, controller_refusal(profile, kind, DONE));
-    profile_refusal(profile, memory_refusal(profile, size, wrong_controller))
+    match check_access(profile, memory.len(), latches.kind) {
+        Ok(controller) => {
+            let reached = reach(profile, controller, *latches, address);
+            store(memory, reached, byte);
+            *latches = latches.after_write(controller, address, byte);
+            Access::done(reached, 0)
+        }
+        Err(refusal) => Access::refused(refusal),
+    }
+}
+
+// The controller that the machine of an access has. Refusals 12, 1, 7, 13.
+pub fn check_access(profile: u8, size: usize, kind: u8) -> Result<Controller, Refusal>
+    ensures status { status_of result ≡ access_refusal profile size kind }
+    ensures value { IfOk result (λ controller. kind_of controller ≡ kind) }
+{
+    check_image(profile, size)?;
+    controller_of(profile, kind)
+}
+
+impl Access {
+    fn done(reached: Place, byte: u8) -> Self
+        ensures { result ≡ access_answer 0 reached byte }
+    {
+        Access {
+            status: DONE,
+            target: reached.target.number(),
+            number: reached.number,
+            byte,
+        }
+    }
+
+    fn refused(reason: Refusal) -> Self
+        ensures { result ≡ record { status = number_of reason; target = 0; number = 0; byte = 0 } }
+    {
+        Access {
+            status: reason.number(),
+            target: 0,
+            number: 0,
+            byte: 0,
+        }
+    }
 }
 
 fn fetch(memory: &[u8], reached: Place) -> u8
@@ -108,5 +144,5 @@ fn store(memory: &mut [u8], reached: Place, byte: u8)
 fn is_memory(reached: Place) -> bool
     ensures { result ≡ is_memory reached }
 {
-    (reached.target == TARGET_RAM) | (reached.target == TARGET_OVERLAY_RAM)
+    matches!(reached.target, Target::Ram | Target::OverlayRam)
 }

@@ -1,12 +1,9 @@
 // The controller kind and its two latch bytes.
-ghost use Rattle.std.specs.Prelude.{◌≡◌, cond};
-ghost use Rattle.bus.specs.Latch.{fresh_latches, is_first_latch, is_second_latch, latches_after};
+ghost use Rattle.std.specs.Prelude.{◌≡◌};
+ghost use Rattle.machine.specs.Controller.{kind_of};
+ghost use Rattle.bus.specs.Latch.{fresh_latches, latches_after};
 
-use machine::KIND_NONE;
-
-pub const KIND_MICRODISC: u8 = 1;
-
-pub const KIND_JASMIN: u8 = 2;
+use machine::Controller;
 
 // Where a write sets a latch.
 const MICRODISC_LATCH: u16 = 0x0314;
@@ -18,7 +15,7 @@ const JASMIN_SECOND_LATCH: u16 = 0x03FB;
 #[repr(C)]
 #[derive(Clone, Copy)]
 pub struct Latches {
-    // The controller: 0 none, 1 Microdisc, 2 Jasmin.
+    // The controller: 0 none, 1 Microdisc, 2 Jasmin. A number, since C may hand in any.
     pub kind: u8,
     pub first: u8,
     pub second: u8,
@@ -29,7 +26,7 @@ pub fn fresh_latches() -> Latches
     ensures { result ≡ fresh_latches }
 {
     Latches {
-        kind: KIND_NONE,
+        kind: Controller::None as u8,
         first: 0,
         second: 0,
     }
@@ -37,35 +34,22 @@ pub fn fresh_latches() -> Latches
 
 impl Latches {
     // The latches after a write, from the next access on.
-    pub(crate) fn after_write(self, address: u16, byte: u8) -> Self
+    pub(crate) fn after_write(self, controller: Controller, address: u16, byte: u8) -> Self
+        requires { kind_of controller ≡ self.kind }
         ensures { result ≡ latches_after self address byte }
     {
-        let kind = self.kind;
-        let first = byte_after(is_first_latch(kind, address), byte, self.first);
-        let second = byte_after(is_second_latch(kind, address), byte, self.second);
-        Latches {
-            kind,
-            first,
-            second,
+        match (controller, address) {
+            (Controller::Microdisc, MICRODISC_LATCH) | (Controller::Jasmin, JASMIN_FIRST_LATCH) => {
+                Latches {
+                    first: byte,
+                    ..self
+                }
+            }
+            (Controller::Jasmin, JASMIN_SECOND_LATCH) => Latches {
+                second: byte,
+                ..self
+            },
+            _ => self,
         }
     }
-}
-
-fn is_first_latch(kind: u8, address: u16) -> bool
-    ensures { result ≡ is_first_latch kind address }
-{
-    ((kind == KIND_MICRODISC) & (address == MICRODISC_LATCH))
-        | ((kind == KIND_JASMIN) & (address == JASMIN_FIRST_LATCH))
-}
-
-fn is_second_latch(kind: u8, address: u16) -> bool
-    ensures { result ≡ is_second_latch kind address }
-{
-    (kind == KIND_JASMIN) & (address == JASMIN_SECOND_LATCH)
-}
-
-fn byte_after(sets: bool, byte: u8, before: u8) -> u8
-    ensures { result ≡ cond sets byte before }
-{
-    if sets { byte } else { before }
 }

@@ -2,15 +2,10 @@
 #![tactic(auto)]
 
 mod cycle;
-mod in_place;
 mod latch;
 mod place;
 
-pub use cycle::{Access, Written, read, write};
-pub use in_place::write_in_place;
-pub use latch::{KIND_JASMIN, KIND_MICRODISC, Latches, fresh_latches};
-pub use machine::KIND_NONE;
-pub use place::{
-    Decoded, TARGET_BASIC_ROM, TARGET_BOOT_EPROM, TARGET_CONTROLLER, TARGET_OVERLAY_RAM,
-    TARGET_RAM, TARGET_UNASSIGNED, TARGET_VIA, decode,
-};
+pub use cycle::{Access, Written, check_access, read, write, write_in_place};
+pub use latch::{Latches, fresh_latches};
+pub use machine::Controller;
+pub use place::{Decoded, Target, decode};

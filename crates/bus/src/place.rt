@@ -1,29 +1,16 @@
 // The address decode: a target, and the number of the byte or register that it selects there.
-ghost use Rattle.std.specs.Prelude.{◌≡◌, ◌≤◌, ◌<◌};
-ghost use Rattle.machine.specs.Bits.{bit};
-ghost use Rattle.bus.specs.Place.{ram, via, controller, basic_rom, overlay_ram, boot_eprom, unassigned, without_controller, microdisc_upper, with_microdisc, jasmin_upper, with_jasmin, place, decode_refusal, decode_answer};
+ghost use Rattle.std.specs.Prelude.{◌≡◌, ◌-◌, ◌≤◌, [], ◌∷◌, IfOk};
+ghost use Rattle.machine.specs.Controller.{kind_of};
+ghost use Rattle.machine.specs.Refusal.{status_of, refusal, kind_check, controller_check};
+ghost use Rattle.bus.specs.Place.{target_number, ram, via, place, decode_refusal, decode_answer};
 
-use crate::latch::{KIND_JASMIN, KIND_MICRODISC, Latches};
-use machine::{DONE, controller_refusal, fold, kind_refusal, profile_refusal};
-
-pub const TARGET_RAM: u8 = 0;
-
-pub const TARGET_VIA: u8 = 1;
-
-pub const TARGET_CONTROLLER: u8 = 2;
-
-pub const TARGET_BASIC_ROM: u8 = 3;
-
-pub const TARGET_OVERLAY_RAM: u8 = 4;
-
-pub const TARGET_BOOT_EPROM: u8 = 5;
-
-pub const TARGET_UNASSIGNED: u8 = 6;
+use crate::latch::Latches;
+use machine::{Controller, DONE, Refusal, bit, check_controller, check_profile, fold};
 
 // Page 3 holds the registers; ROM, EPROM and overlay RAM share the upper 16K.
 const PAGE_3: u16 = 0x0300;
 
-const UPPER: u16 = 0xC000;
+const BASIC_START: u16 = 0xC000;
 
 const VIA_REGISTERS: u16 = 16;
 
@@ -33,14 +20,41 @@ const EPROM_START_8K: u16 = 0xE000;
 const EPROM_START_16K: u16 = 0xC000;
 
 // The bits of the latches, by their weights.
-const MICRODISC_BASIC: u8 = 2;
+const MICRODISC_BASIC: u64 = 2;
 
-const MICRODISC_OVERLAY: u8 = 128;
+const MICRODISC_OVERLAY: u64 = 128;
 
-const JASMIN_OVERLAY: u8 = 1;
+const JASMIN_OVERLAY: u64 = 1;
 
-const JASMIN_EPROM: u8 = 1;
+const JASMIN_EPROM: u64 = 1;
 
+// What an address reaches, under the number that stands in the records of C.
+#[derive(Clone, Copy, Debug, PartialEq, Eq)]
+pub enum Target {
+    Ram = 0,
+    Via = 1,
+    Controller = 2,
+    BasicRom = 3,
+    OverlayRam = 4,
+    BootEprom = 5,
+    Unassigned = 6,
+}
+
+impl Target {
+    pub(crate) fn number(self) -> u8
+        ensures { result ≡ target_number self }
+    {
+        self as u8
+    }
+}
+
+#[derive(Clone, Copy)]
+pub(crate) struct Place {
+    pub target: Target,
+    pub number: u16,
+}
+
+// C reads it: status and target are numbers.
 #[repr(C)]
 #[derive(Clone, Copy)]
 pub struct Decoded {
@@ -49,182 +63,111 @@ pub struct Decoded {
     pub number: u16,
 }
 
-#[derive(Clone, Copy)]
-pub(crate) struct Place {
-    pub target: u8,
-    pub number: u16,
-}
-
 // Which target an address reaches. Refusals 12, 7, 13.
+#[tactic(auto, using(machine::proofs::Refusals::by_number), unfolding(crate::specs::Place::decode_answer))]
 pub fn decode(profile: u8, latches: Latches, address: u16) -> Decoded
     ensures { result ≡ decode_answer profile latches address }
 {
-    let status = decode_refusal(profile, latches.kind);
-    if status != DONE {
-        return Decoded {
-            status,
+    match try_decode(profile, latches, address) {
+        Ok(reached) => Decoded {
+            status: DONE,
+            target: reached.target.number(),
+            number: reached.number,
+        },
+        Err(refusal) => Decoded {
+            status: refusal.number(),
             target: 0,
             number: 0,
-        };
-    }
-    let reached = reach(profile, latches, address);
-    Decoded {
-        status,
-        target: reached.target,
-        number: reached.number,
+        },
     }
 }
 
-fn decode_refusal(profile: u8, kind: u8) -> u8
-    ensures { result ≡ decode_refusal profile kind }
+fn try_decode(profile: u8, latches: Latches, address: u16) -> Result<Place, Refusal>
+    ensures status { status_of result ≡ decode_refusal profile latches.kind }
+    ensures value { IfOk result (λ reached. reached ≡ place profile latches address) }
 {
-    let wrong_controller = kind_refusal(kind, controller_refusal(profile, kind, DONE));
-    profile_refusal(profile, wrong_controller)
+    check_profile(profile)?;
+    let controller = controller_of(profile, latches.kind)?;
+    Ok(reach(profile, controller, latches, address))
 }
 
-pub(crate) fn reach(profile: u8, latches: Latches, address: u16) -> Place
+// The controller of a machine, by its kind. Refusals 7, 13.
+pub(crate) fn controller_of(profile: u8, kind: u8) -> Result<Controller, Refusal>
+    ensures status { status_of result ≡ refusal (kind_check kind ∷ controller_check profile kind ∷ []) }
+    ensures value { IfOk result (λ controller. kind_of controller ≡ kind) }
+{
+    let controller = Controller::try_from(kind)?;
+    check_controller(profile, kind)?;
+    Ok(controller)
+}
+
+// Profile, latches and address come one by one, as C hands them over: a struct of them would be made four times and read twice.
+#[tactic(auto, unfolding(crate::specs::Place::place))]
+pub(crate) fn reach(profile: u8, controller: Controller, latches: Latches, address: u16) -> Place
+    requires { kind_of controller ≡ latches.kind }
     ensures { result ≡ place profile latches address }
 {
-    let kind = latches.kind;
-    match kind {
-        KIND_MICRODISC => reach_with_microdisc(profile, latches.first, address),
-        KIND_JASMIN => reach_with_jasmin(profile, latches.first, latches.second, address),
-        _ => reach_without_controller(profile, address),
+    let first = latches.first as u64;
+    let second = latches.second as u64;
+    match (controller, address) {
+        (Controller::Microdisc, 0x0310..=0x0314 | 0x0318) => {
+            Place::counted(Target::Controller, PAGE_3, address)
+        }
+        (Controller::Microdisc, 0x0310..=0x031F) => {
+            Place::counted(Target::Unassigned, PAGE_3, address)
+        }
+        (Controller::Jasmin, 0x03F4..=0x03FF) => {
+            Place::counted(Target::Controller, PAGE_3, address)
+        }
+        (_, 0x0300..=0x03FF) => Place::via(address),
+        (Controller::Microdisc, 0xC000..=0xFFFF) if bit(MICRODISC_BASIC, first) => {
+            Place::counted(Target::BasicRom, BASIC_START, address)
+        }
+        (Controller::Microdisc, 0xE000..=0xFFFF) if !bit(MICRODISC_OVERLAY, first) => {
+            Place::counted(Target::BootEprom, EPROM_START_8K, address)
+        }
+        (Controller::Microdisc, 0xC000..=0xFFFF) => {
+            Place::counted(Target::OverlayRam, 0, address)
+        }
+        (Controller::Jasmin, 0xC000..=0xFFFF) if bit(JASMIN_OVERLAY, first) => {
+            Place::counted(Target::OverlayRam, 0, address)
+        }
+        (Controller::Jasmin, 0xC000..=0xFFFF) if bit(JASMIN_EPROM, second) => {
+            Place::counted(Target::BootEprom, EPROM_START_16K, address)
+        }
+        (_, 0xC000..=0xFFFF) => Place::counted(Target::BasicRom, BASIC_START, address),
+        _ => Place::ram(profile, address),
     }
 }
 
-fn reach_without_controller(profile: u8, address: u16) -> Place
-    ensures { result ≡ without_controller profile address }
-{
-    match address {
-        0x0300..=0x03FF => to_via(address),
-        0xC000..=0xFFFF => to_basic_rom(address),
-        _ => to_ram(profile, address),
+impl Place {
+    // Only RAM is mirrored: no other target's number is folded.
+    fn ram(profile: u8, address: u16) -> Self
+        ensures { result ≡ ram profile address }
+    {
+        Place {
+            target: Target::Ram,
+            number: fold(profile, address as usize) as u16,
+        }
     }
-}
 
-fn reach_with_microdisc(profile: u8, latch: u8, address: u16) -> Place
-    ensures { result ≡ with_microdisc profile latch address }
-{
-    match address {
-        0x0310..=0x0314 | 0x0318 => to_controller(address),
-        0x0310..=0x031F => to_unassigned(address),
-        0x0300..=0x03FF => to_via(address),
-        0xC000..=0xDFFF => microdisc_upper(latch, address, to_overlay_ram(address)),
-        0xE000..=0xFFFF => microdisc_upper(latch, address, to_boot_eprom(EPROM_START_8K, address)),
-        _ => to_ram(profile, address),
+    fn via(address: u16) -> Self
+        ensures { result ≡ via address }
+    {
+        Place {
+            target: Target::Via,
+            number: address % VIA_REGISTERS,
+        }
     }
-}
 
-fn reach_with_jasmin(profile: u8, first: u8, second: u8, address: u16) -> Place
-    ensures { result ≡ with_jasmin profile first second address }
-{
-    match address {
-        0x03F4..=0x03FF => to_controller(address),
-        0x0300..=0x03FF => to_via(address),
-        0xC000..=0xFFFF => jasmin_upper(first, second, address),
-        _ => to_ram(profile, address),
-    }
-}
-
-// `eprom` is the place that the address reaches where the EPROM is selected.
-fn microdisc_upper(latch: u8, address: u16, eprom: Place) -> Place
-    requires { 0xC000 ≤ address }
-    ensures { result ≡ microdisc_upper latch address eprom }
-{
-    if is_set(MICRODISC_BASIC, latch) {
-        to_basic_rom(address)
-    } else if is_set(MICRODISC_OVERLAY, latch) {
-        to_overlay_ram(address)
-    } else {
-        eprom
-    }
-}
-
-fn jasmin_upper(first: u8, second: u8, address: u16) -> Place
-    requires { 0xC000 ≤ address }
-    ensures { result ≡ jasmin_upper first second address }
-{
-    if is_set(JASMIN_OVERLAY, first) {
-        to_overlay_ram(address)
-    } else if is_set(JASMIN_EPROM, second) {
-        to_boot_eprom(EPROM_START_16K, address)
-    } else {
-        to_basic_rom(address)
-    }
-}
-
-fn is_set(weight: u8, latch: u8) -> bool
-    requires { 0 < weight }
-    ensures { result ≡ bit weight latch }
-{
-    latch / weight % 2 == 1
-}
-
-// Only RAM is mirrored: no other target's number is folded.
-fn to_ram(profile: u8, address: u16) -> Place
-    ensures { result ≡ ram profile address }
-{
-    Place {
-        target: TARGET_RAM,
-        number: fold(profile, address as usize) as u16,
-    }
-}
-
-fn to_via(address: u16) -> Place
-    ensures { result ≡ via address }
-{
-    Place {
-        target: TARGET_VIA,
-        number: address % VIA_REGISTERS,
-    }
-}
-
-fn to_controller(address: u16) -> Place
-    requires { 0x300 ≤ address }
-    ensures { result ≡ controller address }
-{
-    Place {
-        target: TARGET_CONTROLLER,
-        number: address - PAGE_3,
-    }
-}
-
-fn to_unassigned(address: u16) -> Place
-    requires { 0x300 ≤ address }
-    ensures { result ≡ unassigned address }
-{
-    Place {
-        target: TARGET_UNASSIGNED,
-        number: address - PAGE_3,
-    }
-}
-
-fn to_basic_rom(address: u16) -> Place
-    requires { 0xC000 ≤ address }
-    ensures { result ≡ basic_rom address }
-{
-    Place {
-        target: TARGET_BASIC_ROM,
-        number: address - UPPER,
-    }
-}
-
-fn to_overlay_ram(address: u16) -> Place
-    ensures { result ≡ overlay_ram address }
-{
-    Place {
-        target: TARGET_OVERLAY_RAM,
-        number: address,
-    }
-}
-
-fn to_boot_eprom(start: u16, address: u16) -> Place
-    requires { start ≤ address }
-    ensures { result ≡ boot_eprom start address }
-{
-    Place {
-        target: TARGET_BOOT_EPROM,
-        number: address - start,
+    // The number counts from the target's first address.
+    fn counted(target: Target, start: u16, address: u16) -> Self
+        requires { start ≤ address }
+        ensures { result ≡ record { target = target; number = address - start } }
+    {
+        Place {
+            target,
+            number: address - start,
+        }
     }
 }

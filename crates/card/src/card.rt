@@ -6,7 +6,8 @@ use machine::LINES;
 
 pub const CARD_LENGTH: usize = 2 * LINES;
 
-// As the card is printed, eight lines to a row; a row is named by its half and its first line.
+// As the card is printed, eight lines to a row; a row is named by its half and its first line. Both halves are one array, since
+// `line_starts` promises `card`, which is one list of both.
 #[rattlefmt::skip]
 const CARD: [u16; CARD_LENGTH] = [
     0xBB80, 0xBB80, 0xBB80, 0xBB80, 0xBB80, 0xBB80, 0xBB80, 0xBB80, // text 0

@@ -4,14 +4,14 @@ use Prim.Native.Nat.{ℕ}
 use mathlib.Core.List.{List}
 use mathlib.Core.Path.{◌≡◌}
 use lib.ListN.{length}
+use Rattle.machine.specs.Lists.{AreSized}
 use Rattle.machine.specs.Sizes.{lines, frame_length}
 use Rattle.machine.proofs.Refusals.{output_passed}
 use Rattle.compare.specs.Answer.{list_length, status_of}
-use Rattle.compare.specs.Internal.{AreFrames}
 
 module _ (first second counts cells : List ℕ) where
   pub record Sized : Type 0 where
-    pub frames : AreFrames first second
+    pub frames : AreSized frame_length first second
     pub counted : length counts ≡ lines
     pub list : length cells ≡ list_length
 

@@ -1,22 +1,26 @@
 -- What one line adds, and that what is added line by line is what is added at once.
 -- Assumes nothing.
 use Prim.Native.Nat.{ℕ, ◌+◌, ◌*◌, ◌≤◌, ◌<◌, min, max}
-use mathlib.Core.Bool.{true, false}
+use mathlib.Core.Bool.{Bool, true, false}
 use mathlib.Core.List.Memᴰ
 use mathlib.Core.List.{List, [], ◌++◌, map, map-append, foldl, foldl-append, Memᴰ}
 use mathlib.Core.Logic.{⊎_elim}
-use mathlib.Core.Path.{◌≡◌, sym, ap, subst}
+use mathlib.Core.Path.{◌≡◌, sym, ap, subst, ◌∙◌}
 use native.Mathlib.Nat.{add_assoc}
 use native.Mathlib.Omega.{arith}
 use lib.Dec.{ltb}
 use lib.ListN.{length, length-append, length-map}
+use Rattle.std.proofs.Common.{Option, Some, None}
+use Rattle.std.specs.Option.{unwrap_or}
+use Rattle.std.proofs.lemmas.Bool.{both_ways}
 use Rattle.machine.specs.Lists.{Each}
 use Rattle.machine.specs.Sizes.{cell_length, columns, line_length}
 use Rattle.machine.proofs.Each.{each_map}
 use Rattle.compare.specs.Internal.{line_places, has_place, line_listed, found_with}
 use Rattle.compare.specs.Places.{x_of, line_of, differs}
-use Rattle.machine.proofs.Numbers.{either, clash, from_each, from_member, from_nothing, from_nowhere}
-use Rattle.compare.proofs.Picks.{Order, rising, falling, fold_is, fold_all}
+use Rattle.machine.proofs.Numbers.{either, from_each, from_member, from_nothing, from_nowhere}
+use Rattle.compare.proofs.Picks.{Order, AtLeast, rising, falling, fold_is, fold_kept, fold_all}
+use Rattle.compare.proofs.Searches.{First, Last}
 use Rattle.compare.specs.declared.comparison.Found.{Found}
 
 -- nothing more, and some more
@@ -58,12 +62,32 @@ module _ (first second : List ℕ) (line : ℕ) where
   -- no x on one side of another differs: those that do stand on its other side
   pub at_least : (x : ℕ) → ((i : ℕ) → i < x → differs first second (line_length * line + i) ≡ false) → (i : ℕ) → DiffersAt i → x ≤ i
   at_least x same i e =
-      ⊎_elim (λ (le : x ≤ i). le) (λ (lt : i < x). absurd (clash (differs first second (line_length * line + i)) e (same i lt))) (either x i)
+      ⊎_elim (λ (le : x ≤ i). le) (λ (lt : i < x). absurd (both_ways (differs first second (line_length * line + i)) (same i lt) e)) (either x i)
 
   pub at_most : (x : ℕ) → ((i : ℕ) → x < i → i < line_length → differs first second (line_length * line + i) ≡ false)
       → (i : ℕ) → i < line_length → DiffersAt i → i ≤ x
   at_most x same i h e =
-      ⊎_elim (λ (le : i ≤ x). le) (λ (lt : x < i). absurd (clash (differs first second (line_length * line + i)) e (same i lt h))) (either i x)
+      ⊎_elim (λ (le : i ≤ x). le) (λ (lt : x < i). absurd (both_ways (differs first second (line_length * line + i)) (same i lt h) e)) (either i x)
+
+  -- what a search of the line from either end comes to
+  abbrev at_x : ℕ → Bool
+  at_x x = differs first second (line_length * line + x)
+
+  pub first_is : (left : ℕ) → left ≤ line_length → (found : Option ℕ) → First at_x (record { start = 0; end = left }) found
+      → unwrap_or found left ≡ foldl min left (map x_of places)
+  first_is left h None none =
+      sym (fold_kept rising left (map x_of places) (each_x (λ (n : ℕ). left ≤ n) (λ i k. at_least left (λ j less. none j (omega arith) less) i)))
+  first_is left h (Some x) found =
+      let least : min left x ≡ x = omega (arith, found.1) in
+      sym (side rising left x (omega (arith, found.1)) found.2 (λ i k. at_least x (λ j less. found.3 j (omega arith) less) i) ∙ least)
+
+  pub last_is : (right : ℕ) → (found : Option ℕ) → Last at_x (record { start = right; end = line_length }) found
+      → unwrap_or found right ≡ foldl max right (map x_of places)
+  last_is right None none =
+      sym (fold_kept falling right (map x_of places) (each_x (AtLeast right) (at_most right (λ j more. none j (omega arith)))))
+  last_is right (Some x) found =
+      let greatest : max right x ≡ x = omega (arith, found.0) in
+      sym (side falling right x found.1 found.2 (at_most x found.3) ∙ greatest)
 
   -- a line none of whose pixels differs has no differing cell
   pub none_listed : places ≡ [] → line_listed first second line ≡ []

@@ -9,6 +9,7 @@ use lib.Dec.{eqb}
 use lib.ListN.{length, get_or, length-append}
 use lib.Seq.{ext_get_or}
 use borrow.Author.Tests.{eq-eqb, ne_eqb, eqb-true, eqb-false, not-false}
+use Rattle.std.proofs.lemmas.List.{nil_from_length}
 use Rattle.machine.specs.Lists.{gather}
 use Rattle.machine.specs.Refusal.{output_check}
 use Rattle.machine.specs.Sizes.{lines, line_length, frame_length}
@@ -19,7 +20,7 @@ use Rattle.compare.specs.Laws.{ComparisonIsSymmetric, LineCountsSumToPixels, Emp
 use Rattle.machine.specs.Numbers.{sum}
 use Rattle.compare.specs.Places.{x_of, line_of, differs, differences}
 use Rattle.compare.proofs.Accepted.{accepted_lengths}
-use Rattle.machine.proofs.Numbers.{no_length, start_pieces, from_nothing, from_nowhere, from_same}
+use Rattle.machine.proofs.Numbers.{start_pieces, from_nothing, from_nowhere, from_same}
 use Rattle.compare.proofs.Picks.{rising, falling, picked_before, picked_one}
 use Rattle.compare.proofs.Places.{equal}
 use Rattle.compare.proofs.Whole.{counts_are}
@@ -85,7 +86,7 @@ empty_is_equal first second counts cells accepted =
     let places = differences first second in
     let is = ap (λ (c : Comparison). c.empty) (answered first second counts cells accepted) in (
       λ e.
-          let none : places ≡ [] = no_length places (eqb-true (length places) 0 (sym is ∙ e)) in
+          let none : places ≡ [] = nil_from_length places (eqb-true (length places) 0 (sym is ∙ e)) in
           ext_get_or 0 first second (sized.one ∙ sym sized.other)
           (λ i h.
           let place : 0 + i ≡ i = omega arith in

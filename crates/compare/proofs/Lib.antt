@@ -7,3 +7,4 @@ pub mod Accepted
 pub mod Laws
 pub mod LinesFound
 pub mod CellsListed
+pub mod Searches

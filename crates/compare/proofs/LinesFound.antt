@@ -6,16 +6,16 @@ use mathlib.Core.Path.{◌≡◌, refl, sym, ap, ap₂, ◌∙◌}
 use native.Mathlib.Numerals.{add-one}
 use native.Mathlib.Omega.{arith}
 use lib.ListN.{length, take, set, length-set}
-use lib.Seq.{sets, take-suc-set, take_all}
+use lib.Seq.{sets, take-suc-set}
 use Rattle.machine.specs.Lists.{gather}
 use Rattle.machine.specs.Sizes.{columns, lines, line_length}
 use Rattle.machine.proofs.Lists.{gather_next}
-use Rattle.compare.specs.Answer.{list_length, listed}
+use Rattle.compare.specs.Answer.{listed}
 use Rattle.compare.specs.Internal.{line_places, has_place, line_listed, found_with, nothing, found_in, counts_in, listed_in}
 use Rattle.machine.specs.Numbers.{passing_from}
 use Rattle.compare.specs.Places.{x_of, differs}
 use Rattle.compare.proofs.Added.{found_none, found_more}
-use Rattle.compare.proofs.Listed.{listed_length, listed_more}
+use Rattle.compare.proofs.Listed.{listed_more}
 use Rattle.machine.proofs.Numbers.{from_none, start_piece, from_most}
 use Rattle.compare.proofs.Picks.{rising, fold_first}
 use Rattle.compare.specs.declared.comparison.Found.{Found}
@@ -58,10 +58,6 @@ module _ (first second : List ℕ) where
       omega (arith, listed_count, from_most (has_place first second) 0 (columns * line)),
     )
 
-    pub size : length cells ≡ list_length
-    unfolding listed_in
-    size = ap length here.list ∙ listed_length (cells_of line)
-
     pub next : line < lines → (pixels : ℕ) (answer : Found) (left : List ℕ)
         → pixels ≡ length (line_places first second line)
         → answer ≡ found_with found (line_places first second line) (line_listed first second line)
@@ -90,12 +86,3 @@ module _ (first second : List ℕ) where
               ∙ listed_more (cells_of line) added
               ∙ sym (ap listed more-cells);
         }
-
-    pub all : lines ≤ line
-        → (found ≡ found_in first second lines) × (counts ≡ counts_in first second lines) × (cells ≡ listed_in first second lines)
-    all end =
-        let e : line ≡ lines = omega arith in (
-          here.counted ∙ ap (found_in first second) e,
-          sym (take_all line counts (omega (arith, here.lent))) ∙ here.filled ∙ ap (counts_in first second) e,
-          here.list ∙ ap (listed_in first second) e,
-        )

@@ -2,17 +2,14 @@
 -- Assumes nothing.
 use Rattle.std.specs.Prelude.{ℕ, ◌+◌, ◌*◌, ◌<◌, min, max, Bool, cond, eqb, ltb, length}
 use mathlib.Core.List.{List, [], ◌∷◌, map, foldl}
-use Rattle.machine.specs.Lists.{gather, AreSized}
-use Rattle.machine.specs.Sizes.{cell_length, columns, lines, line_length, frame_length}
+use Rattle.machine.specs.Lists.{gather}
+use Rattle.machine.specs.Sizes.{cell_length, columns, lines, line_length}
 use Rattle.compare.specs.Answer.{listed}
 use Rattle.machine.specs.Numbers.{if_passed, passing_from}
 use Rattle.compare.specs.Places.{x_of, line_of, differs}
 use Rattle.compare.specs.declared.comparison.Comparison.{Comparison}
 use Rattle.compare.specs.declared.comparison.Found.{Found}
-
--- two frames
-abbrev pub AreFrames : List ℕ → List ℕ → Type 0
-AreFrames = AreSized frame_length
+use Rattle.compare.specs.declared.pixels.Line.{Line}
 
 module _ (first second : List ℕ) where
   -- the differing places of a line, and of a cell
@@ -32,6 +29,13 @@ module _ (first second : List ℕ) where
 
   abbrev pub line_listed : ℕ → List ℕ
   line_listed line = passing_from has_place (columns * line) columns
+
+-- the differing places of a line of two frames, and its differing cells
+abbrev pub places_of : Line → List ℕ
+places_of line = line_places line.frames.first.now line.frames.second.now line.number
+
+abbrev pub cells_of : Line → List ℕ
+cells_of line = line_listed line.frames.first.now line.frames.second.now line.number
 
 -- some places and cells more
 unfoldable pub found_with : Found → List ℕ → List ℕ → Found

@@ -1,10 +1,12 @@
 // What a comparison answers, and what it has found on the way there.
-ghost use Rattle.std.specs.Prelude.{◌≡◌, cond, ◌≤◌, min, max};
+ghost use Rattle.std.specs.Prelude.{◌≡◌};
+ghost use Rattle.machine.specs.Refusal.{number_of};
 ghost use Rattle.compare.specs.Answer.{uncompared};
 ghost use Rattle.compare.specs.Internal.{nothing, Small, reported};
 
-use machine::{DONE, LINE_LENGTH, LINES};
+use machine::{DONE, LINE_LENGTH, LINES, Refusal};
 
+// The C interface's record: it has a status in place of a Result, and `empty` beside the rectangle in place of an Option.
 #[repr(C)]
 #[derive(Clone, Copy)]
 pub struct Comparison {
@@ -19,7 +21,8 @@ pub struct Comparison {
 }
 
 // What the lines so far come to: the sides of the rectangle, and how many pixels and cells differ. Before the first difference the
-// left side is 240 and the top 224, right and bottom are 0.
+// left side is 240 and the top 224, right and bottom are 0: the next line is searched up to them and folded in by `min` and `max` as
+// ever, where an Option of a rectangle would have a case of its own in each. The cells are all that differ, and so no length of the list.
 #[derive(Clone, Copy)]
 pub(crate) struct Found {
     pub left: usize,
@@ -30,11 +33,11 @@ pub(crate) struct Found {
     pub cells: usize,
 }
 
-pub(crate) fn refused(status: u8) -> Comparison
-    ensures { result ≡ uncompared status }
+pub(crate) fn refused(reason: Refusal) -> Comparison
+    ensures { result ≡ uncompared (number_of reason) }
 {
     Comparison {
-        status,
+        status: reason.number(),
         empty: false,
         first_x: 0,
         last_x: 0,
@@ -64,35 +67,16 @@ impl Found {
         ensures { result ≡ reported self }
     {
         let empty = self.pixels == 0;
+        let (first_x, first_line) = if empty { (0, 0) } else { (self.left, self.top) };
         Comparison {
             status: DONE,
             empty,
-            first_x: side(empty, self.left) as u8,
+            first_x: first_x as u8,
             last_x: self.right as u8,
-            first_line: side(empty, self.top) as u8,
+            first_line: first_line as u8,
             last_line: self.bottom as u8,
             pixels: self.pixels as u32,
             cells: self.cells as u32,
         }
     }
-}
-
-// Where nothing differs a side of the rectangle is 0. The second clause follows from the first; a side fits a byte by it.
-fn side(empty: bool, n: usize) -> usize
-    ensures value { result ≡ cond empty 0 n }
-    ensures upper_bound { result ≤ n }
-{
-    if empty { 0 } else { n }
-}
-
-pub(crate) fn lower(a: usize, b: usize) -> usize
-    ensures { result ≡ min a b }
-{
-    if a < b { a } else { b }
-}
-
-pub(crate) fn higher(a: usize, b: usize) -> usize
-    ensures { result ≡ max a b }
-{
-    if a < b { b } else { a }
 }

@@ -23,7 +23,7 @@ fn main(rt: HostRuntime) -> Result<()> {
     decoding::settings(out)?;
     generated::frames(out, PROFILE_48K)?;
     painting::profiles(out)?;
-    decoding::settings_16k(out)?;
+    decoding::without_controller(out, PROFILE_16K)?;
     generated::frames(out, PROFILE_16K)?;
     mapping::images(out, PROFILE_48K)?;
     mapping::images(out, PROFILE_16K)?;

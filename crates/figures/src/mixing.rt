@@ -1,4 +1,6 @@
 // A generator of numbers, and a digest of bytes by the same step.
+use std::fmt;
+
 const SEED: u64 = 0x9E3779B97F4A7C15;
 
 // One step of xorshift, a permutation of the numbers of 64 bits.
@@ -13,37 +15,43 @@ pub(crate) fn seed(i: u8) -> u64 {
     SEED + i as u64
 }
 
-pub(crate) fn digest_start() -> u64 {
-    SEED
+#[derive(Clone, Copy)]
+pub(crate) struct Digest(u64);
+
+// What a digest takes in.
+pub(crate) trait Digested: Copy {
+    fn add_to(self, digest: Digest) -> Digest;
 }
 
-pub(crate) fn digest_byte(digest: u64, byte: u8) -> u64 {
-    step(digest ^ byte as u64)
-}
-
-pub(crate) fn digest(bytes: &[u8]) -> u64 {
-    let mut d = digest_start();
-    let mut i = 0;
-    while i < bytes.len() {
-        d = digest_byte(d, bytes[i]);
-        i += 1;
+impl Digested for u8 {
+    fn add_to(self, digest: Digest) -> Digest {
+        Digest(step(digest.0 ^ self as u64))
     }
-    d
 }
 
-// Each number as its low byte and then its high byte.
-pub(crate) fn digest_numbers(numbers: &[u16]) -> u64 {
-    let mut d = digest_start();
-    let mut i = 0;
-    while i < numbers.len() {
-        d = digest_number(d, numbers[i]);
-        i += 1;
+// The low byte and then the high byte.
+impl Digested for u16 {
+    fn add_to(self, digest: Digest) -> Digest {
+        let [low, high] = self.to_le_bytes();
+        high.add_to(low.add_to(digest))
     }
-    d
 }
 
-pub(crate) fn digest_number(digest: u64, number: u16) -> u64 {
-    let low = (number % 256) as u8;
-    let high = (number / 256) as u8;
-    digest_byte(digest_byte(digest, low), high)
+impl Digest {
+    pub(crate) fn new() -> Self {
+        Digest(SEED)
+    }
+
+    pub(crate) fn of<T: Digested>(items: &[T]) -> Self {
+        items
+            .iter()
+            .fold(Digest::new(), |digest, item| item.add_to(digest))
+    }
+}
+
+impl fmt::Display for Digest {
+    fn fmt<W: fmt::Write>(&self, f: &mut fmt::Formatter<W>) -> fmt::Result {
+        let n = self.0;
+        write!(f, "{n:016x}")
+    }
 }

@@ -1,5 +1,4 @@
 // The card of line starts as it is printed: eight lines to a row, each row named by its first line.
-use crate::report;
 use machine::LINES;
 use std::io::{Print, Result};
 
@@ -7,22 +6,18 @@ const ROW_LENGTH: usize = 8;
 
 pub(crate) fn halves(out: &impl Print) -> Result<()> {
     let starts = card::line_starts();
-    half(out, b"card text ", &starts[0..LINES])?;
-    half(out, b"card hires ", &starts[LINES..])
+    let (text, hires) = starts.split_at(LINES);
+    half(out, "text", text)?;
+    half(out, "hires", hires)
 }
 
-fn half(out: &impl Print, name: &[u8], starts: &[u16]) -> Result<()> {
-    let mut line = 0;
-    while line < starts.len() {
-        if line % ROW_LENGTH == 0 {
-            report::field(out, name, line as u64)?;
-            report::text(out, b":")?;
+fn half(out: &impl Print, name: &str, starts: &[u16]) -> Result<()> {
+    for (row, row_starts) in starts.chunks(ROW_LENGTH).enumerate() {
+        print!(out; "card {name} {}:", ROW_LENGTH * row)?;
+        for start in row_starts {
+            print!(out; " {start:04X}")?;
         }
-        report::address(out, starts[line])?;
-        if line % ROW_LENGTH == ROW_LENGTH - 1 {
-            report::end(out)?;
-        }
-        line += 1;
+        println!(out)?;
     }
     Ok(())
 }

@@ -1,7 +1,8 @@
 // Slips of generated lines that were moved, of stripes, and of lines of wrong lengths.
-ghost use Rattle.std.specs.Prelude.{◌<◌};
+ghost use Rattle.std.specs.Prelude.{◌<◌, ◌≤◌};
 
-use crate::{comparing, generated, mixing, report};
+use crate::generated::Kind;
+use crate::{comparing, mixing};
 use machine::LINE_LENGTH;
 use slips::Slip;
 use std::io::{Print, Result};
@@ -15,10 +16,8 @@ const MOVES: u8 = 25;
 const CHANGED: u64 = 4_096;
 
 pub(crate) fn moves(out: &impl Print) -> Result<()> {
-    let mut number: u8 = 0;
-    while number < MOVES {
+    for number in 0..MOVES {
         moved(out, number)?;
-        number += 1;
     }
     Ok(())
 }
@@ -26,96 +25,69 @@ pub(crate) fn moves(out: &impl Print) -> Result<()> {
 fn moved(out: &impl Print, number: u8) -> Result<()>
     requires { number < 25 }
 {
-    let mut reference = [0u8; LINE_LENGTH];
-    generated::fill(&mut reference, generated::RANDOM, mixing::seed(number));
-    let mut grabbed = [0u8; LINE_LENGTH];
-    generated::fill(
-        &mut grabbed,
-        generated::RANDOM,
-        mixing::seed(number + MOVES),
-    );
+    let mut reference = [0; LINE_LENGTH];
+    Kind::Random.fill(&mut reference, mixing::seed(number));
+    let mut grabbed = [0; LINE_LENGTH];
+    Kind::Random.fill(&mut grabbed, mixing::seed(number + MOVES));
     shift(&reference, &mut grabbed, number);
     comparing::change(&mut grabbed, mixing::seed(number), CHANGED);
-    report_move(out, number)?;
-    report_answer(out, slips::find_slip(&reference, &grabbed))
+    print!(out; "slip moved {}", number as i8 - FARTHEST as i8)?;
+    report(out, slips::find_slip(&reference, &grabbed))
 }
 
 // Pixel x goes to x + number - 12, where the line has that place.
-fn shift(reference: &[u8], grabbed: &mut [u8], number: u8) {
-    let mut x = 0;
-    while x < reference.len() {
-        store(grabbed, x + number as usize, reference[x]);
-        x += 1;
-    }
-}
-
-// 12 pixels to the left, where the line has that place.
-fn store(line: &mut [u8], from: usize, pixel: u8) {
-    if from >= FARTHEST as usize {
-        let at = from - FARTHEST as usize;
-        if at < line.len() {
-            line[at] = pixel;
-        }
-    }
-}
-
-fn report_move(out: &impl Print, number: u8) -> Result<()> {
-    if number < FARTHEST {
-        report::field(out, b"slip moved -", (FARTHEST - number) as u64)
-    } else {
-        report::field(out, b"slip moved ", (number - FARTHEST) as u64)
-    }
+fn shift(reference: &[u8; LINE_LENGTH], grabbed: &mut [u8; LINE_LENGTH], number: u8)
+    requires { number < 25 }
+{
+    let from = FARTHEST.saturating_sub(number) as usize;
+    let to = number.saturating_sub(FARTHEST) as usize;
+    let count = LINE_LENGTH - from - to;
+    grabbed[to..to + count].copy_from_slice(&reference[from..from + count]);
 }
 
 pub(crate) fn widths(out: &impl Print) -> Result<()> {
-    stripes(out, 1)?;
-    stripes(out, 2)?;
-    stripes(out, 3)?;
-    stripes(out, 11)?;
-    stripes(out, 12)?;
-    stripes(out, 13)?;
-    stripes(out, 240)
+    for width in [1, 2, 3, 11, 12, 13, 240] {
+        stripes(out, width)?;
+    }
+    Ok(())
 }
 
 // The grabbed line has the two colours the other way round.
-fn stripes(out: &impl Print, width: u8) -> Result<()>
+fn stripes(out: &impl Print, width: usize) -> Result<()>
     requires { 0 < width }
 {
-    let mut reference = [0u8; LINE_LENGTH];
-    stripe(&mut reference, width, 0);
-    let mut grabbed = [0u8; LINE_LENGTH];
-    stripe(&mut grabbed, width, width);
-    report::field(out, b"slip stripes ", width as u64)?;
-    report_answer(out, slips::find_slip(&reference, &grabbed))
+    let reference = striped(width, 0);
+    let grabbed = striped(width, 1);
+    print!(out; "slip stripes {width}")?;
+    report(out, slips::find_slip(&reference, &grabbed))
 }
 
-fn stripe(line: &mut [u8], width: u8, from: u8)
-    requires { 0 < width }
+fn striped(width: usize, first: usize) -> [u8; LINE_LENGTH]
+    requires { (0 < width) × (first ≤ 1) }
 {
-    let mut x = 0;
-    while x < line.len() {
-        line[x] = ((x + from as usize) / width as usize % 2) as u8;
-        x += 1;
+    let mut line = [0; LINE_LENGTH];
+    for (x, pixel) in line.iter_mut().enumerate() {
+        *pixel = ((x / width + first) % 2) as u8;
     }
+    line
 }
 
 // Of each pair of lengths one is wrong.
 pub(crate) fn lengths(out: &impl Print) -> Result<()> {
-    let right = [0u8; LINE_LENGTH];
-    let long = [0u8; LINE_LENGTH + 1];
-    pair(out, &right[..LINE_LENGTH - 1], &long[..LINE_LENGTH])?;
-    pair(out, &right, &long)
+    let long = [0; LINE_LENGTH + 1];
+    let right = &long[..LINE_LENGTH];
+    pair(out, &long[..LINE_LENGTH - 1], right)?;
+    pair(out, right, &long)
 }
 
 fn pair(out: &impl Print, reference: &[u8], grabbed: &[u8]) -> Result<()> {
-    report::field(out, b"slip lengths ", reference.len() as u64)?;
-    report::field(out, b" ", grabbed.len() as u64)?;
-    report_answer(out, slips::find_slip(reference, grabbed))
+    print!(out; "slip lengths {} {}", reference.len(), grabbed.len())?;
+    report(out, slips::find_slip(reference, grabbed))
 }
 
-fn report_answer(out: &impl Print, answer: Slip) -> Result<()> {
-    report::field(out, b": status ", answer.status as u64)?;
-    report::signed_field(out, b" slip ", answer.slip)?;
-    report::field(out, b" disagreements ", answer.disagreements as u64)?;
-    report::end(out)
+fn report(out: &impl Print, answer: Slip) -> Result<()> {
+    println!(out;
+        ": status {} slip {} disagreements {}",
+        answer.status, answer.slip, answer.disagreements
+    )
 }

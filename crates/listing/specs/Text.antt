@@ -1,7 +1,9 @@
 -- The text of the listing, as lists of bytes.
 -- Assumes nothing.
-use Rattle.std.specs.Prelude.{ℕ, zero, suc, ◌+◌, ◌/◌, ◌%◌, ◌≡◌, cond, List, [], ◌∷◌, ◌++◌, map, ltb, length, take}
-use Rattle.io.specs.Counts.{IsPrefixLen}
+use Rattle.std.specs.Prelude.{ℕ, zero, suc, ◌+◌, ◌/◌, ◌%◌, cond, List, [], ◌∷◌, ◌++◌, map, eqb, ltb}
+use Rattle.std.specs.List.{flat_map}
+use Rattle.std.specs.Simd.{first_chunks}
+use Rattle.machine.specs.Sizes.{line_length, lines}
 use Rattle.video.specs.declared.answer.Painted.{Painted}
 
 -- the byte that ends a line
@@ -66,8 +68,11 @@ closing_text answer =
 abbrev pub refused_text : ℕ → List ℕ
 refused_text status = field refused_word status ++ line_feed
 
--- a text after a part was put in: its first bytes up to `at` as before, then the part, up to `end`
-pub record Appended (before : List ℕ) (at : ℕ) (part after : List ℕ) (end : ℕ) : Type 0 where
-  pub within : IsPrefixLen end after
-  pub ends : end ≡ at + length part
-  pub text : take end after ≡ take at before ++ part
+-- the lines of a frame, one after another
+unfoldable pub frame_text : List ℕ → List ℕ
+frame_text frame = flat_map line_text (first_chunks line_length lines frame)
+
+-- all that is written: the frame and the last line, or the only line where the painting is refused
+abbrev pub listing_text : Painted → List ℕ → List ℕ
+listing_text answer frame =
+    cond (eqb answer.status 0) (frame_text frame ++ closing_text answer) (refused_text answer.status)

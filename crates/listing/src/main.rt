@@ -1,97 +1,61 @@
 // Paints standard input, the memory image, from the fresh state and writes the frame, or the refusal.
-// Reading and writing only: what is written is made by the functions of text.rt.
+// Reading and writing only: the texts are made by the functions of text.rt.
 #![tactic(auto)]
 
 mod text;
 
-ghost use Rattle.std.specs.Prelude.{◌≡◌, length, IfOk};
-ghost use Rattle.io.specs.Counts.{IsPrefixLen};
-ghost use Rattle.machine.specs.Sizes.{line_length, frame_length};
+ghost use Rattle.std.specs.Prelude.{◌≡◌, take, IfOk, IfSome, OnOk};
+ghost use Rattle.std.specs.Io.KnownBytes.{Appends};
+ghost use Rattle.listing.specs.Text.{frame_text, listing_text};
 
-use machine::{DONE, FRAME_LENGTH, IMAGE_LENGTH, LINE_LENGTH, LINES};
-use std::io::{Read, Result, Write};
-use text::{CLOSING_LENGTH, LINE_TEXT_LENGTH, REFUSAL_LENGTH};
+use arrayvec::ArrayVec;
+use machine::{DONE, FRAME_LENGTH, IMAGE_LENGTH, LINE_LENGTH};
+use std::io::{self, Read, Result, Write};
 use video::Painted;
 
 // One byte more than an image, which tells a longer input from an image.
 const MOST_READ: usize = IMAGE_LENGTH + 1;
 
-// Reads until bytes is full or the input ends, and answers how many bytes it put at the start of bytes.
-fn read_full<R: Read>(input: &mut R, bytes: &mut [u8]) -> Result<usize>
-    ensures { IfOk result (λ size. IsPrefixLen size bytes.new) }
+// Reads the input to its end, so that its writer is not cut off, and keeps what tells whether it is an image.
+fn read_image<R: Read>(input: &mut R) -> Result<ArrayVec<u8, MOST_READ>>
+    ensures { IfOk result (λ image. IfSome (R.remaining input.old) (λ bytes. image.items ≡ take MOST_READ bytes)) }
 {
-    let mut size = 0;
-    while size < bytes.len() {
-        let count = input.read(&mut bytes[size..])?;
-        if count == 0 {
-            break;
-        }
-        size += count;
+    let mut image = ArrayVec::new();
+    // A reborrow, since the contract of by_ref does not say what it lends.
+    io::copy(&mut (&mut *input).take(MOST_READ as u64), &mut image)?;
+    if image.is_full() {
+        io::copy(input, &mut io::sink())?;
     }
-    Ok(size)
+    Ok(image)
 }
 
-// Reads once, and answers whether something came.
-fn drop_some<R: Read>(input: &mut R) -> Result<bool> {
-    let mut dropped = [0u8; 4096];
-    Ok(input.read(&mut dropped)? > 0)
-}
-
-// Reads the input to its end, so that its writer is not cut off. A proved loop has to end and nothing
-// says that an input does, so the turns go to a number that no run uses up.
-fn drop_rest<R: Read>(input: &mut R) -> Result<()> {
-    for _ in 0..u64::MAX {
-        if !drop_some(input)? {
-            break;
-        }
+// The lines of the frame.
+fn write_frame<W: Write>(out: &mut W, frame: &[u8; FRAME_LENGTH]) -> Result<()>
+    ensures { OnOk result (Appends (W.contents out.old) (W.contents out.new) (frame_text frame.now)) }
+{
+    let (lines, _) = frame.as_chunks::<LINE_LENGTH>();
+    for pixels in lines {
+        out.write_all(text::line_text(pixels).as_bytes())?;
     }
     Ok(())
 }
 
-fn write_line<W: Write>(out: &mut W, pixels: &[u8]) -> Result<()>
-    requires { length pixels.now ≡ line_length }
+// The frame and the closing line, or the refusal alone. The status is a number since Painted is the record of the C interface.
+fn write_listing<W: Write>(out: &mut W, answer: Painted, frame: &[u8; FRAME_LENGTH]) -> Result<()>
+    ensures { OnOk result (Appends (W.contents out.old) (W.contents out.new) (listing_text answer frame.now)) }
 {
-    let mut text = [0u8; LINE_TEXT_LENGTH];
-    text::line_text(pixels, &mut text);
-    out.write_all(&text)
-}
-
-fn write_frame<W: Write>(out: &mut W, frame: &[u8]) -> Result<()>
-    requires { length frame.now ≡ frame_length }
-{
-    for line in 0..LINES {
-        let from = line * LINE_LENGTH;
-        write_line(out, &frame[from..from + LINE_LENGTH])?;
+    match answer.status {
+        DONE => {
+            write_frame(out, frame)?;
+            out.write_all(text::closing_line(answer).as_bytes())
+        }
+        status => out.write_all(text::refusal_line(status).as_bytes()),
     }
-    Ok(())
-}
-
-fn write_closing<W: Write>(out: &mut W, answer: Painted) -> Result<()> {
-    let mut text = [0u8; CLOSING_LENGTH];
-    let size = text::closing_line(answer, &mut text);
-    out.write_all(&text[..size])
-}
-
-fn write_refusal<W: Write>(out: &mut W, status: u8) -> Result<()> {
-    let mut text = [0u8; REFUSAL_LENGTH];
-    let size = text::refusal_line(status, &mut text);
-    out.write_all(&text[..size])
 }
 
 fn main(rt: HostRuntime) -> Result<()> {
-    let mut input = rt.stdin();
-    let mut image = [0u8; MOST_READ];
-    let size = read_full(&mut input, &mut image)?;
-    if size == MOST_READ {
-        drop_rest(&mut input)?;
-    }
+    let image = read_image(&mut rt.stdin())?;
     let mut frame = [0u8; FRAME_LENGTH];
-    let answer = video::paint_frame(&image[..size], video::fresh_state(), &mut frame);
-    let mut out = rt.stdout();
-    if answer.status == DONE {
-        write_frame(&mut out, &frame)?;
-        write_closing(&mut out, answer)
-    } else {
-        write_refusal(&mut out, answer.status)
-    }
+    let answer = video::paint_frame(image.as_slice(), video::fresh_state(), &mut frame);
+    write_listing(&mut rt.stdout(), answer, &frame)
 }

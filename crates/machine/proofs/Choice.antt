@@ -6,7 +6,7 @@ use mathlib.Core.Path.{◌≡◌, refl}
 use lib.Dec.{eqb}
 use borrow.Author.Tests.{eqb-true, eqb-false, eq-eqb, ne_eqb}
 
--- what holds of both values holds of the chosen one
+-- what holds of both values holds of the chosen one, in whichever case: the library's `cond_both` hands on the case
 pub cond_all : {A : Type 0} (P : A → Type 0) (b : Bool) (x y : A) → P x → P y → P (cond b x y)
 cond_all P true x y px py = px
 cond_all P false x y px py = py

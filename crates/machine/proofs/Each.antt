@@ -7,7 +7,7 @@ use mathlib.Core.Logic.{⊎_elim}
 use mathlib.Core.Path.{◌≡◌, refl, sym, subst}
 use native.Mathlib.Nat.{eq-or-lt_of_le}
 use native.Mathlib.Omega.{arith}
-use lib.ListN.{get_or, length, replicate}
+use lib.ListN.{replicate}
 use Rattle.machine.specs.Lists.{gather, Each}
 
 module _ {A : Type 0} (P : A → Type 0) where
@@ -49,12 +49,6 @@ module _ {A : Type 0} (P : A → Type 0) where
 
   pub each_tail : (x : A) (xs : List A) → Each P (x ∷ xs) → Each P xs
   each_tail x xs p y m = p y (Memᴰ.tail m)
-
-  -- the element at an index
-  pub each_at : (xs : List A) → Each P xs → (i : ℕ) (d : A) → i < length xs → P (get_or xs i d)
-  each_at [] p i d h = absurd (omega arith)
-  each_at (x ∷ xs) p zero d h = each_head x xs p
-  each_at (x ∷ xs) p (suc i) d h = each_at xs (each_tail x xs p) i d (omega arith)
 
   pub each_flatten : (xs : List (List A)) → Each (Each P) xs → Each P (flatten xs)
   unfolding flatten

@@ -93,12 +93,7 @@ flatten_at size (x ∷ xs) sized (suc i) j d hi hj =
     (get_or-append-add x (flatten xs) (size * i + j) d
     ∙ flatten_at size xs (each_tail (λ (y : List _). length y ≡ size) x xs sized) i j d (omega arith) hj)
 
--- the element at an index, whatever stands for one that is not there
-pub map_at : {A B : Type 0} (f : A → B) (xs : List A) (i : ℕ) (a : A) (b : B) → i < length xs → get_or (map f xs) i b ≡ f (get_or xs i a)
-map_at f [] i a b h = absurd (omega arith)
-map_at f (x ∷ xs) zero a b h = refl
-map_at f (x ∷ xs) (suc i) a b h = map_at f xs i a b (omega arith)
-
+-- the library's law of this name is of std's own flat_map
 pub flat_map_append : {A B : Type 0} (f : A → List B) (xs ys : List A) → flat_map f (xs ++ ys) ≡ flat_map f xs ++ flat_map f ys
 unfolding flat_map
 flat_map_append f [] ys = refl

@@ -26,18 +26,10 @@ either a b = go (leb a b) refl
     go true e = inl (leb-true a b e)
     go false e = inr (leb-false a b e)
 
--- a test says one thing
-pub clash : (b : Bool) → b ≡ true → b ≡ false → ⊥
-clash b isTrue isFalse = let z : ◌≡◌ {A = ℕ} 0 1 = cc in omega arith
-
--- a list that has an element has a length, and one that has no length is empty
+-- a list that has an element has a length
 pub some : {n : ℕ} (ns : List ℕ) → Memᴰ n ns → 0 < length ns
 some [] m = absurd (Memᴰ.not-nil m)
 some (k ∷ ks) m = omega arith
-
-pub no_length : {A : Type 0} (xs : List A) → length xs ≡ 0 → xs ≡ []
-no_length [] e = refl
-no_length (x ∷ xs) e = absurd (omega arith)
 
 one_most : (b : Bool) → bool_byte b ≤ 1
 one_most true = omega arith

@@ -1,13 +1,16 @@
 -- What a status tells: which of two things is given, and where it is 0 that each test of the nest was passed.
 -- Assumes nothing.
 use Prim.Native.Nat.{ℕ, zero, suc, ◌≤◌, ◌<◌}
+use Rattle.std.specs.Prelude.{Result, Err}
 use mathlib.Core.Bool.{Bool, true, false, not, cond}
-use mathlib.Core.Path.{◌≡◌, refl, ap, subst, ◌∙◌}
+use mathlib.Core.Path.{◌≡◌, refl, subst}
 use native.Mathlib.Omega.{arith}
 use lib.Dec.{T, eqb, leb, ltb}
 use borrow.Author.Tests.{eq-eqb, eqb-true, leb-false, ltb-false, not-false}
 use Rattle.machine.specs.Image.{is_16k, image_length}
-use Rattle.machine.specs.Refusal.{given, if_done, memory_check, output_check, mode_check, counter_check, line_check, column_check, kind_check, profile_check, controller_check, trace_check}
+use Rattle.machine.specs.Refusal.{number_of, status_of, given, if_done, memory_check, output_check, mode_check, counter_check, line_check, column_check, kind_check, profile_check, controller_check, trace_check}
+use Rattle.machine.specs.declared.refusal.Refusal.{Refusal}
+use Rattle.machine.specs.declared.refusal.Refusal.TheVariants.{Memory, Output, Mode, Counter, Line, Column, Kind, Trace, Profile, Controller}
 use Rattle.machine.specs.Sizes.{columns, lines, last_mode, last_count, last_kind, last_profile, longest_trace}
 
 pub done : {A : Type 0} (n : ℕ) (a b : A) → n ≡ 0 → if_done n a b ≡ a
@@ -18,9 +21,25 @@ pub refused : {A : Type 0} (n : ℕ) (a b : A) → (n ≡ 0 → ⊥) → if_done
 refused zero a b e = absurd (e refl)
 refused (suc n) a b e = refl
 
--- one link of a nest: a test before others
-pub nested : (applies : Bool) (number r later rest : ℕ) → r ≡ cond applies number later → later ≡ rest → r ≡ cond applies number rest
-nested applies number r later rest here after = here ∙ ap (cond applies number) after
+-- a refusal is no 0: what is given is what a refusal leaves
+pub by_number : {A : Type 0} (reason : Refusal) (done refused : A) → if_done (number_of reason) done refused ≡ refused
+by_number Memory done refused = refl
+by_number Output done refused = refl
+by_number Mode done refused = refl
+by_number Counter done refused = refl
+by_number Line done refused = refl
+by_number Column done refused = refl
+by_number Kind done refused = refl
+by_number Trace done refused = refl
+by_number Profile done refused = refl
+by_number Controller done refused = refl
+
+-- and so it is where a call gave this refusal for its checks
+pub by_refusal : {A B : Type 0} (outcome : Result B Refusal) (reason : Refusal) (number : ℕ) (done refused : A)
+    → outcome ≡ Err reason → status_of outcome ≡ number → if_done number done refused ≡ refused
+by_refusal {B = B} outcome reason number done refused is checked =
+    let numbered : number_of reason ≡ number = subst (λ (o : Result B Refusal). status_of o ≡ number) is checked in
+    rw (← numbered) (by_number reason done refused)
 
 -- a test was passed: what it asks holds, and so the status is that of the tests after it
 pub record Passed (Fact : Type 0) (later : ℕ) : Type 0 where

@@ -2,13 +2,13 @@
 ghost use Rattle.std.specs.Prelude.{◌≡◌, ◌≤◌};
 ghost use Rattle.machine.specs.Image.{is_16k, image_length, folded};
 
-use crate::choose::choose_address;
+use crate::select::choose;
 use crate::{IMAGE_LENGTH, IMAGE_LENGTH_16K, PROFILE_16K};
 
 pub fn image_length(profile: u8) -> usize
     ensures { result ≡ image_length profile }
 {
-    choose_address(is_16k(profile), IMAGE_LENGTH_16K, IMAGE_LENGTH)
+    choose(is_16k(profile), IMAGE_LENGTH_16K, IMAGE_LENGTH)
 }
 
 // The second clause follows from the first; sums of addresses are bounded by it.
@@ -16,7 +16,7 @@ pub fn fold(profile: u8, address: usize) -> usize
     ensures value { result ≡ folded profile address }
     ensures upper_bound { result ≤ address }
 {
-    choose_address(is_16k(profile), address % IMAGE_LENGTH_16K, address)
+    choose(is_16k(profile), address % IMAGE_LENGTH_16K, address)
 }
 
 pub(crate) fn is_16k(profile: u8) -> bool

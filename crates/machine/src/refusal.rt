@@ -1,81 +1,101 @@
-// The refusals one by one. Each takes the status of the tests that come after it, so an entry point nests those that concern its
-// inputs in its own order.
-ghost use Rattle.std.specs.Prelude.{◌≡◌, cond};
-ghost use Rattle.machine.specs.Refusal.{given, memory_check, output_check, mode_check, counter_check, line_check, column_check, kind_check, profile_check, controller_check, trace_check};
+// The refusals, and the test of each. An entry point runs those that concern its inputs in its own order.
+ghost use Rattle.std.specs.Prelude.{◌≡◌, [], ◌∷◌};
+ghost use Rattle.machine.specs.Refusal.{number_of, check_of, status_of, refusal, memory_check, output_check, mode_check, counter_check, line_check, column_check, profile_check, controller_check, trace_check};
 
+use crate::controller::Controller;
 use crate::image::{image_length, is_16k};
-use crate::{
-    COLUMNS, KIND_NONE, LAST_COUNT, LAST_KIND, LAST_MODE, LAST_PROFILE, LINES, LONGEST_TRACE,
-    REFUSED_COLUMN, REFUSED_CONTROLLER, REFUSED_COUNTER, REFUSED_KIND, REFUSED_LINE,
-    REFUSED_MEMORY, REFUSED_MODE, REFUSED_OUTPUT, REFUSED_PROFILE, REFUSED_TRACE,
-};
+use crate::{COLUMNS, LAST_COUNT, LAST_MODE, LAST_PROFILE, LINES, LONGEST_TRACE};
 
-fn refuse_if(applies: bool, number: u8, later: u8) -> u8
-    ensures { result ≡ cond applies number later }
-{
-    if applies { number } else { later }
+// Why nothing is answered, under the number that stands in the status of an answer.
+#[derive(Clone, Copy, Debug, PartialEq, Eq)]
+pub enum Refusal {
+    Memory = 1,
+    Output = 2,
+    Mode = 3,
+    Counter = 4,
+    Line = 5,
+    Column = 6,
+    Kind = 7,
+    Trace = 8,
+    Profile = 12,
+    Controller = 13,
 }
 
-pub fn memory_refusal(profile: u8, size: usize, later: u8) -> u8
-    ensures { result ≡ given (memory_check profile size) later }
-{
-    refuse_if(size != image_length(profile), REFUSED_MEMORY, later)
+impl Refusal {
+    pub fn number(self) -> u8
+        ensures { result ≡ number_of self }
+    {
+        self as u8
+    }
 }
 
-pub fn output_refusal(wanted: usize, size: usize, later: u8) -> u8
-    ensures { result ≡ given (output_check wanted size) later }
+// What the checks share. They stay apart, since each has its limit and its refusal in one place: one check for all would have the two at
+// every call.
+fn refuse_if(applies: bool, reason: Refusal) -> Result<(), Refusal>
+    ensures { status_of result ≡ refusal (check_of reason applies ∷ []) }
 {
-    refuse_if(size != wanted, REFUSED_OUTPUT, later)
+    if applies { Err(reason) } else { Ok(()) }
 }
 
-pub fn mode_refusal(mode: u8, later: u8) -> u8
-    ensures { result ≡ given (mode_check mode) later }
+pub fn check_memory(profile: u8, size: usize) -> Result<(), Refusal>
+    ensures { status_of result ≡ refusal (memory_check profile size ∷ []) }
 {
-    refuse_if(mode > LAST_MODE, REFUSED_MODE, later)
+    refuse_if(size != image_length(profile), Refusal::Memory)
 }
 
-pub fn counter_refusal(counter: u8, later: u8) -> u8
-    ensures { result ≡ given (counter_check counter) later }
+pub fn check_output(wanted: usize, size: usize) -> Result<(), Refusal>
+    ensures { status_of result ≡ refusal (output_check wanted size ∷ []) }
 {
-    refuse_if(counter > LAST_COUNT, REFUSED_COUNTER, later)
+    refuse_if(size != wanted, Refusal::Output)
 }
 
-pub fn line_refusal(line: usize, later: u8) -> u8
-    ensures { result ≡ given (line_check line) later }
+pub fn check_mode(mode: u8) -> Result<(), Refusal>
+    ensures { status_of result ≡ refusal (mode_check mode ∷ []) }
 {
-    refuse_if(line >= LINES, REFUSED_LINE, later)
+    refuse_if(mode > LAST_MODE, Refusal::Mode)
 }
 
-pub fn column_refusal(column: usize, later: u8) -> u8
-    ensures { result ≡ given (column_check column) later }
+pub fn check_counter(counter: u8) -> Result<(), Refusal>
+    ensures { status_of result ≡ refusal (counter_check counter ∷ []) }
 {
-    refuse_if(column >= COLUMNS, REFUSED_COLUMN, later)
+    refuse_if(counter > LAST_COUNT, Refusal::Counter)
 }
 
-pub fn kind_refusal(kind: u8, later: u8) -> u8
-    ensures { result ≡ given (kind_check kind) later }
+pub fn check_line(line: usize) -> Result<(), Refusal>
+    ensures { status_of result ≡ refusal (line_check line ∷ []) }
 {
-    refuse_if(kind > LAST_KIND, REFUSED_KIND, later)
+    refuse_if(line >= LINES, Refusal::Line)
 }
 
-pub fn trace_refusal(count: usize, later: u8) -> u8
-    ensures { result ≡ given (trace_check count) later }
+pub fn check_column(column: usize) -> Result<(), Refusal>
+    ensures { status_of result ≡ refusal (column_check column ∷ []) }
 {
-    refuse_if(count > LONGEST_TRACE, REFUSED_TRACE, later)
+    refuse_if(column >= COLUMNS, Refusal::Column)
 }
 
-pub fn profile_refusal(profile: u8, later: u8) -> u8
-    ensures { result ≡ given (profile_check profile) later }
+pub fn check_trace(count: usize) -> Result<(), Refusal>
+    ensures { status_of result ≡ refusal (trace_check count ∷ []) }
 {
-    refuse_if(profile > LAST_PROFILE, REFUSED_PROFILE, later)
+    refuse_if(count > LONGEST_TRACE, Refusal::Trace)
 }
 
-pub fn controller_refusal(profile: u8, kind: u8, later: u8) -> u8
-    ensures { result ≡ given (controller_check profile kind) later }
+pub fn check_profile(profile: u8) -> Result<(), Refusal>
+    ensures { status_of result ≡ refusal (profile_check profile ∷ []) }
 {
-    refuse_if(
-        is_16k(profile) & (kind != KIND_NONE),
-        REFUSED_CONTROLLER,
-        later,
-    )
+    refuse_if(profile > LAST_PROFILE, Refusal::Profile)
+}
+
+// A memory image, by its profile: refusals 12, 1.
+pub fn check_image(profile: u8, size: usize) -> Result<(), Refusal>
+    ensures { status_of result ≡ refusal (profile_check profile ∷ memory_check profile size ∷ []) }
+{
+    check_profile(profile)?;
+    check_memory(profile, size)
+}
+
+pub fn check_controller(profile: u8, kind: u8) -> Result<(), Refusal>
+    ensures { status_of result ≡ refusal (controller_check profile kind ∷ []) }
+{
+    let has_none = kind == Controller::None as u8;
+    refuse_if(is_16k(profile) & !has_none, Refusal::Controller)
 }

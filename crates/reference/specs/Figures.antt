@@ -11,7 +11,8 @@ use Rattle.video.specs.Cell.{screen_byte}
 use Rattle.video.specs.Line.{registers_before, cell_at}
 use Rattle.video.specs.Ram.{Ram}
 use Rattle.bus.specs.Latch.{fresh_latches}
-use Rattle.bus.specs.Place.{place, via, basic_rom, overlay_ram}
+use Rattle.bus.specs.Place.{target_number, place, via, basic_rom, overlay_ram}
+use Rattle.bus.specs.declared.place.Target.TheVariants as Target
 
 -- the mode is text
 abbrev pub Text : ℕ → Type 0
@@ -71,13 +72,15 @@ pub record Figures : Type 0 where
       → ((cell_at ram counter 0 mode 6).screen ≡ folded ram.profile 0xBB86) × ((cell_at ram counter 0 mode 6).mode ≡ 2)
   pub microdisc_fd : (profile second : ℕ) → place profile (record { kind = 1; first = 0xFD; second = second }) 0xC000 ≡ overlay_ram 0xC000
   pub microdisc_00_c000 : (profile second : ℕ) → place profile (record { kind = 1; first = 0x00; second = second }) 0xC000 ≡ overlay_ram 0xC000
-  pub microdisc_00_e000 : (profile second : ℕ) → place profile (record { kind = 1; first = 0x00; second = second }) 0xE000 ≡ record { target = 5; number = 0 }
+  pub microdisc_00_e000 : (profile second : ℕ) → place profile (record { kind = 1; first = 0x00; second = second }) 0xE000 ≡ record { target = Target.BootEprom; number = 0 }
   pub microdisc_02 : (profile second : ℕ) → place profile (record { kind = 1; first = 0x02; second = second }) 0xC000 ≡ basic_rom 0xC000
+  pub boot_eprom_is_5 : target_number Target.BootEprom ≡ 5
   pub folded_48k : (address : ℕ) → folded 0 address ≡ address
   pub folded_16k_bb80 : folded 1 0xBB80 ≡ 0x3B80
   pub folded_16k_b400 : folded 1 0xB400 ≡ 0x3400
   pub folded_16k_9800 : folded 1 0x9800 ≡ 0x1800
-  pub ram_16k_4300 : place 1 fresh_latches 0x4300 ≡ record { target = 0; number = 0x300 }
-  pub ram_16k_8300 : place 1 fresh_latches 0x8300 ≡ record { target = 0; number = 0x300 }
+  pub ram_is_0 : target_number Target.Ram ≡ 0
+  pub ram_16k_4300 : place 1 fresh_latches 0x4300 ≡ record { target = Target.Ram; number = 0x300 }
+  pub ram_16k_8300 : place 1 fresh_latches 0x8300 ≡ record { target = Target.Ram; number = 0x300 }
   pub via_16k_0300 : place 1 fresh_latches 0x0300 ≡ via 0x0300
   pub basic_16k_c000 : place 1 fresh_latches 0xC000 ≡ basic_rom 0xC000

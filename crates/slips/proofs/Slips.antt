@@ -1,16 +1,13 @@
 -- The slips in a row from -12 on: each has a place of its own, and the next slip the next place.
 -- Assumes nothing.
 use Prim.Native.Nat.{ℕ, zero, suc, ◌+◌, ◌-◌, ◌≤◌, ◌<◌}
-use mathlib.Core.Bool.{true, false}
 use mathlib.Core.Path.{◌≡◌, refl, ap, ◌∙◌}
 use native.Mathlib.Omega.{arith}
 use lib.Dec.{lt→ltb}
 use lib.IntN.{ℤ, pos, negsuc, nat_abs, suc_ℤ, sub_ℕ, ◌+ℤ◌, +ℤ_one}
-use lib.Signed.{◌<ℤ◌, lt_z}
-use borrow.Author.Tests.{ltb-true, ltb-false}
+use lib.Signed.{◌<ℤ◌}
 use Rattle.slips.specs.Slip.{farthest_slip, IsSlip}
 use Rattle.slips.proofs.Integers.{difference}
-use Rattle.machine.proofs.Numbers.{clash}
 
 abbrev pub first_slip : ℤ
 first_slip = negsuc 11
@@ -38,26 +35,9 @@ next_place (pos n) is = omega arith
 next_place (negsuc zero) is = refl
 next_place (negsuc (suc n)) is = omega arith
 
-next_slip : (slip : ℤ) → IsSlip slip → place slip < last_place → IsSlip (suc_ℤ slip)
-next_slip (pos n) is h = omega arith
-next_slip (negsuc zero) is h = omega arith
-next_slip (negsuc (suc n)) is h = omega arith
-
 module _ (slip : ℤ) (is : IsSlip slip) where
   pub place_next : place (slip +ℤ pos 1) ≡ place slip + 1
   place_next = ap place (+ℤ_one slip) ∙ next_place slip is
-
-  pub slip_next : place slip < last_place → IsSlip (slip +ℤ pos 1)
-  slip_next h = rw (+ℤ_one slip) (next_slip slip is h)
-
--- what a test against the last slip tells
-pub place_before : (slip : ℤ) {last : ℕ} → IsSlip slip → lt_z slip (pos last) ≡ true → last ≤ farthest_slip → place slip < last_place
-place_before (pos n) {last} is e h = omega (arith, ltb-true n last e)
-place_before (negsuc n) is e h = omega arith
-
-pub place_last : (slip : ℤ) {last : ℕ} → IsSlip slip → lt_z slip (pos last) ≡ false → last ≡ farthest_slip → place slip ≡ last_place
-place_last (pos n) {last} is e h = omega (arith, ltb-false n last e)
-place_last (negsuc n) is e h = absurd (clash true refl e)
 
 -- the slip at a place
 module _ (n : ℕ) where

@@ -1,12 +1,6 @@
 -- What the functions of this crate promise to each other.
 -- Assumes nothing.
-use Rattle.std.specs.Prelude.{ℕ, Bool, cond, List, eqb, ltb, ℤ, nat_abs}
-use Rattle.machine.specs.Lists.{AreSized}
-use Rattle.machine.specs.Sizes.{line_length}
-
--- two lines
-abbrev pub AreLines : List ℕ → List ℕ → Type 0
-AreLines = AreSized line_length
+use Rattle.std.specs.Prelude.{ℕ, Bool, cond, eqb, ltb, ℤ, nat_abs}
 
 -- a slip with so many disagreements has fewer than another, or as many and is nearer zero
 abbrev pub is_better : ℤ → ℕ → ℤ → ℕ → Bool

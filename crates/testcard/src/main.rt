@@ -6,151 +6,116 @@ mod attributes;
 mod glyphs;
 mod hires;
 mod memory;
+mod row;
 mod sets;
-mod text;
-
-ghost use Rattle.std.specs.Prelude.{◌≡◌, ◌≤◌, ◌<◌, length};
 
 use attributes::{ALTERNATE, ALTERNATE_DOUBLE, DOUBLE, FLASH, HIRES, INK, INVERSE, PAPER, TEXT};
+use memory::{Image, SPACE};
 use sets::{BLOCK, MOSAIC};
 use std::io;
-use std::io::Write;
-use text::{SPACE, attribute, bars, codes, inverse, write};
 
-// Rows 0 and 1 hold the same text, its upper and its lower half. Row 2 numbers the columns.
-fn title(image: &mut [u8])
-    requires { length image.old ≡ 65536 }
-{
-    let attributes = [PAPER + 4, DOUBLE, INK + 3];
-    write(image, 0, 0, &attributes);
-    write(image, 1, 0, &attributes);
-    write(image, 0, 8, b"TROPFENPFAD ULA TEST CARD");
-    write(image, 1, 8, b"TROPFENPFAD ULA TEST CARD");
-    write(image, 2, 0, b"0123456789012345678901234567890123456789");
-}
+impl Image {
+    // Rows 0 and 1 hold the same text, its upper and its lower half. Row 2 numbers the columns.
+    fn title(&mut self) {
+        for row in &mut self.screen[0..2] {
+            row.write(0, &[PAPER + 4, DOUBLE, INK + 3]);
+            row.write(8, b"TROPFENPFAD ULA TEST CARD");
+        }
+        self.screen[2].write(0, b"0123456789012345678901234567890123456789");
+    }
 
-// A caption, and at column 7 the attribute that holds from column 8 on.
-fn begin_row(image: &mut [u8], row: usize, caption: &[u8], byte: u8)
-    requires image_len { length image.old ≡ 65536 }
-    requires row_bound { (row < 28) × (length caption.now ≤ 7) }
-{
-    write(image, row, 0, caption);
-    attribute(image, row, 7, byte);
-}
+    // Rows 3 to 6: the standard and the alternate set.
+    fn text_sets(&mut self) {
+        self.screen[3].write(0, b"B400    ABCDEFGHIJKLMNOPQRSTUVWXYZ");
+        self.screen[4].write(0, b"        0123456789  - . / :");
+        self.screen[5].begin(b"B800", ALTERNATE);
+        self.screen[5].codes(8, MOSAIC, 32);
+        self.screen[6].begin(b"", ALTERNATE);
+        self.screen[6].codes(8, MOSAIC + 32, 32);
+    }
 
-// Rows 3 to 6: the standard and the alternate set.
-fn text_sets(image: &mut [u8])
-    requires { length image.old ≡ 65536 }
-{
-    write(image, 3, 0, b"B400    ABCDEFGHIJKLMNOPQRSTUVWXYZ");
-    write(image, 4, 0, b"        0123456789  - . / :");
-    begin_row(image, 5, b"B800", ALTERNATE);
-    codes(image, 5, 8, MOSAIC, 32);
-    begin_row(image, 6, b"", ALTERNATE);
-    codes(image, 6, 8, MOSAIC + 32, 32);
-}
+    // Rows 8 to 14. Row 13 is read on line 111 alone, from column 20 on.
+    fn hires_captions(&mut self) {
+        self.screen[8].begin(b"HIRES", HIRES);
+        self.screen[9].begin(b"LINES", HIRES);
+        self.screen[10].begin(b"64-95", HIRES);
+        self.screen[11].begin(b"1E 1A", HIRES);
+        self.screen[13].attribute(20, PAPER + 1);
+        self.screen[14].write(0, b"HIRES KEPT 96-111   1A IN 111 AT COL 19");
+    }
 
-// Rows 8 to 14. Row 13 is read on line 111 alone, from column 20 on.
-fn hires_captions(image: &mut [u8])
-    requires { length image.old ≡ 65536 }
-{
-    begin_row(image, 8, b"HIRES", HIRES);
-    begin_row(image, 9, b"LINES", HIRES);
-    begin_row(image, 10, b"64-95", HIRES);
-    begin_row(image, 11, b"1E 1A", HIRES);
-    attribute(image, 13, 20, PAPER + 1);
-    write(image, 14, 0, b"HIRES KEPT 96-111   1A IN 111 AT COL 19");
-}
+    // Rows 15 to 18. The last has the papers again, inverse on their attribute cells too.
+    fn colours(&mut self) {
+        self.screen[15].write(0, b"COLOUR   0   1   2   3   4   5   6   7");
+        self.screen[16].write(0, b"INK");
+        self.screen[16].bars(INK, BLOCK);
+        self.screen[17].write(0, b"PAPER");
+        self.screen[17].bars(PAPER, SPACE);
+        self.screen[18].write(0, b"INVERSE");
+        self.screen[18].bars(INVERSE | PAPER, INVERSE | SPACE);
+    }
 
-// Rows 15 to 18. The last has the papers again, inverse on their attribute cells too.
-fn colours(image: &mut [u8])
-    requires { length image.old ≡ 65536 }
-{
-    write(image, 15, 0, b"COLOUR   0   1   2   3   4   5   6   7");
-    write(image, 16, 0, b"INK");
-    bars(image, 16, INK, BLOCK);
-    write(image, 17, 0, b"PAPER");
-    bars(image, 17, PAPER, SPACE);
-    write(image, 18, 0, b"INVERSE");
-    bars(image, 18, INVERSE | PAPER, INVERSE | SPACE);
-}
+    // Rows 20 and 21: an even row shows the upper half, an odd one the lower half.
+    fn double_height(&mut self) {
+        for row in &mut self.screen[20..22] {
+            row.attribute(7, DOUBLE);
+            row.write(8, b"DOUBLE HEIGHT");
+            row.attribute(22, ALTERNATE_DOUBLE);
+            row.codes(23, MOSAIC + 47, 17);
+        }
+        self.screen[20].write(0, b"DOUBLE");
+    }
 
-// Rows 20 and 21: an even row shows the upper half, an odd one the lower half.
-fn double_height(image: &mut [u8])
-    requires { length image.old ≡ 65536 }
-{
-    double_row(image, 20);
-    double_row(image, 21);
-    write(image, 20, 0, b"DOUBLE");
-}
+    // Row 22 flashes, and row 23 is inverse from its attribute on.
+    fn flash_and_inverse(&mut self) {
+        self.screen[22].begin(b"FLASH", FLASH);
+        self.screen[22].write(8, b"16 FRAMES SHOWN 16 HIDDEN");
+        self.screen[23].begin(b"BIT 7", INK + 6);
+        self.screen[23].write(8, b"INK 6 AS 1  PAPER 0 AS 7");
+        self.screen[23].inverse(7..40);
+    }
 
-fn double_row(image: &mut [u8], row: usize)
-    requires image_len { length image.old ≡ 65536 }
-    requires row_bound { row < 28 }
-{
-    attribute(image, row, 7, DOUBLE);
-    write(image, row, 8, b"DOUBLE HEIGHT");
-    attribute(image, row, 22, ALTERNATE_DOUBLE);
-    codes(image, row, 23, MOSAIC + 47, 17);
-}
+    // Row 25: letters from the standard set at 9800, in hires mode, and again from that at B400.
+    fn bottom_standard(&mut self) {
+        let row = &mut self.screen[25];
+        row.begin(b"9800", HIRES);
+        row.write(8, b"ABCDEFGHIJKLMNO");
+        row.attribute(24, TEXT);
+        row.write(25, b"ABCDEFGHIJKLMNO");
+    }
 
-// Row 22 flashes, and row 23 is inverse from its attribute on.
-fn flash_and_inverse(image: &mut [u8])
-    requires { length image.old ≡ 65536 }
-{
-    begin_row(image, 22, b"FLASH", FLASH);
-    write(image, 22, 8, b"16 FRAMES SHOWN 16 HIDDEN");
-    begin_row(image, 23, b"BIT 7", INK + 6);
-    write(image, 23, 8, b"INK 6 AS 1  PAPER 0 AS 7");
-    inverse(image, 23, 7, 33);
-}
+    // Row 26: mosaics from the alternate set at 9C00, and again from that at B800.
+    fn bottom_alternate(&mut self) {
+        let row = &mut self.screen[26];
+        row.begin(b"9C00", HIRES);
+        row.attribute(6, ALTERNATE);
+        row.codes(8, MOSAIC + 1, 15);
+        row.attribute(24, TEXT);
+        row.codes(25, MOSAIC + 1, 15);
+    }
 
-// Row 25: letters from the standard set at 9800, in hires mode, and again from that at B400.
-fn bottom_standard(image: &mut [u8])
-    requires { length image.old ≡ 65536 }
-{
-    begin_row(image, 25, b"9800", HIRES);
-    write(image, 25, 8, b"ABCDEFGHIJKLMNO");
-    attribute(image, 25, 24, TEXT);
-    write(image, 25, 25, b"ABCDEFGHIJKLMNO");
-}
-
-// Row 26: mosaics from the alternate set at 9C00, and again from that at B800.
-fn bottom_alternate(image: &mut [u8])
-    requires { length image.old ≡ 65536 }
-{
-    begin_row(image, 26, b"9C00", HIRES);
-    attribute(image, 26, 6, ALTERNATE);
-    codes(image, 26, 8, MOSAIC + 1, 15);
-    attribute(image, 26, 24, TEXT);
-    codes(image, 26, 25, MOSAIC + 1, 15);
-}
-
-// Row 27, inverse in all its cells.
-fn last_row(image: &mut [u8])
-    requires { length image.old ≡ 65536 }
-{
-    write(image, 27, 0, b"BF68 TO BFDF   THE FRAME ENDS IN MODE 2 ");
-    inverse(image, 27, 0, 40);
+    // Row 27, inverse in all its cells.
+    fn last_row(&mut self) {
+        self.screen[27].write(0, b"BF68 TO BFDF   THE FRAME ENDS IN MODE 2 ");
+        self.screen[27].inverse(0..40);
+    }
 }
 
 fn main(rt: HostRuntime) -> io::Result<()> {
-    let mut image = [0u8; 65536];
-    sets::text_standard(&mut image);
-    sets::text_alternate(&mut image);
-    sets::hires_standard(&mut image);
-    sets::hires_alternate(&mut image);
-    text::clear(&mut image);
-    title(&mut image);
-    text_sets(&mut image);
-    hires_captions(&mut image);
-    hires::split(&mut image);
-    hires::full(&mut image);
-    colours(&mut image);
-    double_height(&mut image);
-    flash_and_inverse(&mut image);
-    bottom_standard(&mut image);
-    bottom_alternate(&mut image);
-    last_row(&mut image);
-    rt.stdout().write_all(&image)
+    let mut image = Image::new();
+    image.draw_font();
+    image.draw_slanted_font();
+    image.draw_mosaics();
+    image.title();
+    image.text_sets();
+    image.hires_captions();
+    image.split();
+    image.full();
+    image.colours();
+    image.double_height();
+    image.flash_and_inverse();
+    image.bottom_standard();
+    image.bottom_alternate();
+    image.last_row();
+    image.write_to(&mut rt.stdout())
 }

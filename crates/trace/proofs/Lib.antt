@@ -1,3 +1,1 @@
-pub mod Advance
 pub mod Laws
-pub mod Walks

@@ -1,4 +1,3 @@
 pub mod Cycle
 pub mod List
-pub mod Internal
 pub mod Laws

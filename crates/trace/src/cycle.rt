@@ -1,15 +1,14 @@
 // One record of a trace, and the access that it asks for.
 ghost use Rattle.std.specs.Prelude.{◌≡◌};
-ghost use Rattle.trace.specs.Cycle.{is_write, filled, board_of};
-ghost use Rattle.trace.specs.Internal.{stepped, step_contents};
+ghost use Rattle.trace.specs.Cycle.{is_write, filled, answered, board_of, board_after_cycle};
 
-use bus::{Latches, read, write};
+use bus::{Access, Latches, read, write_in_place};
 
 #[repr(C)]
 #[derive(Clone, Copy)]
 pub struct Cycle {
     pub address: u16,
-    // 0 is a read, any other value a write.
+    // 0 is a read, any other value a write. A number, since C may hand in any.
     pub write: u8,
     // The byte to write.
     pub byte: u8,
@@ -19,34 +18,19 @@ pub struct Cycle {
     pub byte_read: u8,
 }
 
-// A record that was answered, and the latches for the next one.
-#[derive(Clone, Copy)]
-pub(crate) struct Stepped {
-    pub cycle: Cycle,
-    pub latches: Latches,
-}
-
-pub(crate) fn step(memory: &mut [u8], profile: u8, latches: Latches, cycle: Cycle) -> Stepped
-    ensures value { result ≡ stepped profile (board_of memory.old latches) cycle }
-    ensures memory_after { memory.new ≡ step_contents profile (board_of memory.old latches) cycle }
-{
-    if cycle.is_write() {
-        let written = write(memory, profile, latches, cycle.address, cycle.byte);
-        let after = written.latches;
-        Stepped {
-            cycle: cycle.filled(written.target, written.number, written.byte),
-            latches: after,
-        }
-    } else {
-        let access = read(memory, profile, latches, cycle.address);
-        Stepped {
-            cycle: cycle.filled(access.target, access.number, access.byte),
-            latches,
+impl Cycle {
+    // The record with the answer of its access, which is made.
+    pub(crate) fn answered(self, memory: &mut [u8], profile: u8, latches: &mut Latches) -> Self
+        ensures value { result ≡ answered profile (board_of memory.old latches.old) self }
+        ensures board_after { board_of memory.new latches.new ≡ board_after_cycle profile (board_of memory.old latches.old) self }
+    {
+        if self.is_write() {
+            self.filled(write_in_place(memory, profile, latches, self.address, self.byte))
+        } else {
+            self.filled(read(memory, profile, *latches, self.address))
         }
     }
-}
 
-impl Cycle {
     fn is_write(self) -> bool
         ensures { result ≡ is_write self }
     {
@@ -54,16 +38,14 @@ impl Cycle {
     }
 
     // What was asked stays as it was, for a read too.
-    fn filled(self, target: u8, number: u16, byte: u8) -> Self
-        ensures { result ≡ filled self target number byte }
+    fn filled(self, access: Access) -> Self
+        ensures { result ≡ filled self access.target access.number access.byte }
     {
         Cycle {
-            address: self.address,
-            write: self.write,
-            byte: self.byte,
-            number,
-            target,
-            byte_read: byte,
+            number: access.number,
+            target: access.target,
+            byte_read: access.byte,
+            ..self
         }
     }
 }

@@ -1,14 +1,13 @@
 // The records of a trace, one after the other.
 ghost use Rattle.std.specs.Prelude.{◌≡◌};
-ghost use Rattle.trace.specs.Internal.{judged};
+ghost use Rattle.machine.specs.Refusal.{status_of};
 ghost use Rattle.trace.specs.List.{trace_refusal, trace_answer, trace_contents, trace_cycles};
 
-use crate::cycle::{Cycle, step};
-use bus::Latches;
-use machine::{
-    DONE, controller_refusal, kind_refusal, memory_refusal, profile_refusal, trace_refusal,
-};
+use crate::cycle::Cycle;
+use bus::{Latches, check_access};
+use machine::{DONE, Refusal, check_trace};
 
+// C reads it: the status is a number.
 #[repr(C)]
 #[derive(Clone, Copy)]
 pub struct Traced {
@@ -16,49 +15,34 @@ pub struct Traced {
     pub latches: Latches,
 }
 
-// What is said of a call before its first record.
-#[derive(Clone, Copy)]
-pub(crate) struct Judged {
-    pub status: u8,
-    // How many records are answered: none where the call is refused.
-    pub count: usize,
-}
-
 // Each record is answered as `read` or `write` answers its access, on what the records before it left. Refusals 12, 1, 7, 13, 8.
+#[tactic(auto, using(machine::proofs::Refusals::by_number), unfolding(crate::specs::List::trace_answer, crate::specs::List::trace_contents, crate::specs::List::trace_cycles))]
 pub fn trace(memory: &mut [u8], profile: u8, latches: Latches, cycles: &mut [Cycle]) -> Traced
     ensures value { result ≡ trace_answer memory.old profile latches cycles.old }
     ensures memory_after { memory.new ≡ trace_contents memory.old profile latches cycles.old }
     ensures cycles_after { cycles.new ≡ trace_cycles memory.old profile latches cycles.old }
 {
-    let judged = judge(profile, memory.len(), latches.kind, cycles.len());
-    let mut left = latches;
-    let mut at = 0;
-    while at < judged.count {
-        let next = step(memory, profile, left, cycles[at]);
-        cycles[at] = next.cycle;
-        left = next.latches;
-        at = at + 1;
-    }
-    Traced {
-        status: judged.status,
-        latches: left,
-    }
-}
-
-fn judge(profile: u8, size: usize, kind: u8, count: usize) -> Judged
-    ensures { result ≡ judged profile size kind count }
-{
-    let status = call_refusal(profile, size, kind, count);
-    Judged {
-        status,
-        count: if status == DONE { count } else { 0 },
+    match check_call(profile, memory.len(), latches.kind, cycles.len()) {
+        Ok(()) => {
+            let mut left = latches;
+            for cycle in cycles.iter_mut() {
+                *cycle = cycle.answered(memory, profile, &mut left);
+            }
+            Traced {
+                status: DONE,
+                latches: left,
+            }
+        }
+        Err(refusal) => Traced {
+            status: refusal.number(),
+            latches,
+        },
     }
 }
 
-fn call_refusal(profile: u8, size: usize, kind: u8, count: usize) -> u8
-    ensures { result ≡ trace_refusal profile size kind count }
+fn check_call(profile: u8, size: usize, kind: u8, count: usize) -> Result<(), Refusal>
+    ensures { status_of result ≡ trace_refusal profile size kind count }
 {
-    let wrong_controller = controller_refusal(profile, kind, trace_refusal(count, DONE));
-    let wrong_kind = kind_refusal(kind, wrong_controller);
-    profile_refusal(profile, memory_refusal(profile, size, wrong_kind))
+    check_access(profile, size, kind)?;
+    check_trace(count)
 }

@@ -72,10 +72,6 @@ pub marked_none : (lent : List ℕ) → Bytes lent → lent ≡ marked lent []
 unfolding is_in
 marked_none lent bytes = as_marked lent [] lent refl (λ k h. kept [] k (get_or lent k 0) (bytes k) (λ b hb. refl))
 
--- nor does any address change a map of no bytes
-pub marked_empty : (lent addresses : List ℕ) → length lent ≡ 0 → lent ≡ marked lent addresses
-marked_empty lent addresses empty = as_marked lent addresses lent refl (λ k h. absurd (omega arith))
-
 -- one address
 module _ (lent : List ℕ) (bytes : Bytes lent) (address : ℕ) where
   abbrev place : ℕ

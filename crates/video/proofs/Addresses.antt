@@ -1,8 +1,8 @@
 -- Every address that a cell uses lies in the block from 8000 to BFFF, and folded inside the image: by lines 0 to 199 or below them, text
 -- or hires.
 -- Assumes nothing.
-use Prim.Native.Nat.{ℕ, ◌+◌, ◌-◌, ◌*◌, ◌<◌, ◌≤◌, ◌/◌, ◌%◌}
-use mathlib.Core.Bool.{Bool, true, false, cond}
+use Prim.Native.Nat.{ℕ, ◌+◌, ◌<◌, ◌≤◌, ◌/◌, ◌%◌}
+use mathlib.Core.Bool.{Bool, true, false}
 use mathlib.Core.Path.{◌≡◌, refl}
 use native.Mathlib.Omega.{arith}
 use lib.Dec.{ltb}
@@ -12,7 +12,7 @@ use Rattle.machine.specs.Image.{is_16k, block_length, image_length, folded}
 use Rattle.machine.specs.Sizes.{columns, lines}
 use Rattle.machine.proofs.Choice.{cond_all, cond_most, cond_both}
 use Rattle.machine.proofs.Folding.{folded_most, folded_inside}
-use Rattle.card.specs.Card.{bitmap_lines, text_start, hires_start}
+use Rattle.card.specs.Card.{bitmap_lines}
 use Rattle.video.specs.Address.{video_block, is_hires, screen_address, text_characters, hires_characters, character_set, alternate_offset, character_row, character_address}
 
 -- the block from 8000 to BFFF, in which all used addresses of the table lie
@@ -42,12 +42,6 @@ module _ (profile line column mode : ℕ) (hl : line < lines) (hc : column < col
   pub screen_inside : screen_address profile line column mode < image_length profile
   screen_inside = folded_inside profile (screen_address 0 line column mode) (omega (arith, screen_in_block))
 
--- a screen byte, counted from the start of the block
-pub screen_moved : (line column mode : ℕ) → line < lines → column < columns
-    → cond (is_hires mode) (hires_start line) (text_start line) - video_block + column ≡ screen_address 1 line column mode
-screen_moved line column mode hl hc =
-    omega (arith, screen_in_block 0 line 0 mode hl (omega arith), screen_in_block 0 line column mode hl hc)
-
 -- both sets lie in the block
 pub set_in : (mode : ℕ) → (hires_characters ≤ character_set mode) × (character_set mode ≤ text_characters)
 set_in mode =
@@ -63,10 +57,6 @@ module _ (profile line mode style code : ℕ) (hc : code < 128) where
   -- any character byte of a set
   pub characters_in_block : InBlock (character_address 0 line mode style code)
   characters_in_block = omega (arith, set_in mode, row_most line style, offset_most style)
-
-  -- counted from the start of the block
-  pub character_moved : character_set mode - video_block + alternate_offset style + 8 * code + character_row line style ≡ character_address 1 line mode style code
-  character_moved = omega (arith, set_in mode, row_most line style, offset_most style)
 
   pub characters_inside : character_address profile line mode style code < image_length profile
   characters_inside = folded_inside profile (character_address 0 line mode style code) (omega (arith, characters_in_block))

@@ -1,9 +1,10 @@
 -- The registers hold colours, and a cell is six of them: its pattern, painted with the registers that it leaves.
 -- Assumes nothing.
 use Prim.Native.Nat.{ℕ, ◌%◌, ◌≤◌}
+use Rattle.std.specs.Prelude.{None, Some, unwrap_or}
 use mathlib.Core.Bool.{Bool, true, false, cond}
-use mathlib.Core.List.{List, map, Option-to_list}
-use mathlib.Core.Option.{none, some, get_or}
+use mathlib.Core.List.{List, map}
+use mathlib.Core.Option.{none, some}
 use mathlib.Core.Path.{◌≡◌, refl, ap}
 use native.Mathlib.Omega.{arith}
 use lib.Dec.{ltb}
@@ -16,7 +17,7 @@ use Rattle.machine.proofs.Choice.{cond_all, cond_most}
 use Rattle.machine.proofs.Each.{each_replicate, each_map}
 use Rattle.video.specs.Address.{is_bitmap, screen_address, character_address}
 use Rattle.video.specs.Cell.{cell, screen_byte, registers_after, character_used, pattern, colours_of}
-use Rattle.video.specs.Internal.{painted_cell, shown}
+use Rattle.video.specs.Internal.{optional, painted_cell, shown}
 use Rattle.video.specs.Pattern.{pattern_colour, pattern_weights, complemented}
 use Rattle.video.specs.Ram.{Ram}
 use Rattle.video.specs.Registers.{is_attribute, latched, shown_ink}
@@ -83,16 +84,18 @@ module _ (ram : Ram) (counter line column : ℕ) (before : Registers) where
   pub attribute_painted : is_attribute byte ≡ true
       → let after = latched before byte in
       ◌≡◌ {A = PaintedCell}
-      (record { registers = after; colours = shown after counter byte 0; screen = screen; character = 0; pattern = screen })
+      (record { registers = after; colours = shown after counter byte 0; screen = screen; character = None })
       (painted_cell (cell ram counter line column before))
-  unfolding cell colours_of registers_after character_used Option-to_list
+  unfolding cell colours_of registers_after character_used
   attribute_painted attribute = simp attribute
 
-  -- where the pattern of a picture is read
+  -- where a picture's character byte is, if it uses one
+  abbrev pub definition : ℕ
+  definition = character_address ram.profile line before.mode before.style (byte % 128)
+
+  -- where its pattern is read
   abbrev pub pattern_address : ℕ
-  pattern_address =
-      cond (is_bitmap line before.mode) screen
-      (character_address ram.profile line before.mode before.style (byte % 128))
+  pattern_address = unwrap_or (cond (is_bitmap line before.mode) None (Some definition)) screen
 
   -- it is in the low six bits of the byte there
   pictured : (bitmap : Bool) → is_bitmap line before.mode ≡ bitmap → is_attribute byte ≡ false
@@ -102,12 +105,9 @@ module _ (ram : Ram) (counter line column : ℕ) (before : Registers) where
   pictured false e picture = simp (picture, e)
 
   -- outside bitmaps it is a character byte
-  counted : (bitmap : Bool) (address : ℕ)
-      → let character = cond bitmap none (some address) in
-      (cond bitmap 0 1 ≡ length (Option-to_list character)) × (cond bitmap screen address ≡ get_or character screen)
-  unfolding Option-to_list
-  counted true address = (refl, refl)
-  counted false address = (refl, refl)
+  used_outside : (bitmap : Bool) (address : ℕ) → cond bitmap None (Some address) ≡ optional (cond bitmap none (some address))
+  used_outside true address = refl
+  used_outside false address = refl
 
   picture_colours : is_attribute byte ≡ false → colours_of ram counter line before byte ≡ shown before counter byte (byte_at ram.image pattern_address)
   unfolding colours_of
@@ -121,12 +121,9 @@ module _ (ram : Ram) (counter line column : ℕ) (before : Registers) where
         registers = before;
         colours = shown before counter byte (byte_at ram.image pattern_address);
         screen = screen;
-        character = cond (is_bitmap line before.mode) 0 1;
-        pattern = pattern_address;
+        character = cond (is_bitmap line before.mode) None (Some definition);
       })
       (painted_cell (cell ram counter line column before))
   unfolding cell registers_after character_used
   picture_painted picture =
-      let address = character_address ram.profile line before.mode before.style (byte % 128) in
-      let used = counted (is_bitmap line before.mode) address in
-      rw (picture_colours picture) (simp picture (rw (used.0, used.1) refl))
+      rw (picture_colours picture) (simp picture (rw (used_outside (is_bitmap line before.mode) definition) refl))

@@ -1,6 +1,7 @@
 -- What the loop over a frame has done when it comes to a line, how one line more adds to it, and what it comes to at the end.
 -- Assumes nothing.
 use Prim.Native.Nat.{ℕ, ◌+◌, ◌-◌, ◌*◌, ◌≤◌, ◌<◌}
+use mathlib.Core.Bool.{Bool, true, false, cond}
 use mathlib.Core.List.{List, ◌++◌, flat_map, flatten}
 use mathlib.Core.Path.{◌≡◌, refl, sym, ap, ap₂, ◌∙◌}
 use native.Mathlib.Omega.{arith}
@@ -35,7 +36,6 @@ module _ (image : Image) (state : State) where
   first = first_lines ram state.counter state.mode
 
   pub record Reached (frame : List ℕ) (registers : Registers) (screen character line : ℕ) : Type 0 where
-    pub within : line ≤ lines
     pub size : length frame ≡ frame_length
     pub filled : take (line_length * line) frame ≡ pixels (first line)
     pub path : registers.mode ≡ mode_before ram state.mode line
@@ -44,30 +44,32 @@ module _ (image : Image) (state : State) where
 
   pub none : (frame : List ℕ) (registers : Registers) → length frame ≡ frame_length → registers.mode ≡ state.mode → Reached frame registers 0 0 0
   unfolding first_lines gather mode_after_lines pixels flatten character_addresses flat_map
-  none frame registers size mode =
-      record { within = omega arith; size = size; filled = refl; path = mode; screens = refl; characters = refl }
+  none frame registers size mode = record { size = size; filled = refl; path = mode; screens = refl; characters = refl }
 
-  -- no address is marked before the first line
-  pub none_marked : (marks : List ℕ) → Bytes marks → marks ≡ marked marks (used (first 0))
+  -- where addresses are marked, those of the lines before a line are
+  abbrev pub Marked : Bool → ℕ → List ℕ → List ℕ → Type 0
+  Marked marking line before marks = marks ≡ cond marking (marked before (used (first line))) before
+
+  pub none_marked : (marking : Bool) (marks : List ℕ) → Bytes marks → Marked marking 0 marks marks
   unfolding first_lines gather used flat_map
-  none_marked marks bytes = marked_none marks bytes
+  none_marked true marks bytes = marked_none marks bytes
+  none_marked false marks bytes = refl
 
   module _ (frame : List ℕ) (registers : Registers) (screen character line : ℕ) (here : Reached frame registers screen character line) where
-    pub next : line < lines → (part : List ℕ) (answer : PaintedLine)
-        → part ≡ pixels (line_cells ram state.counter line registers.mode)
-        → answer ≡ painted_line ram state.counter line registers.mode
-        → Reached (put_mid (line_length * line) (line_length * line + line_length - line_length * line) frame part) answer.registers (screen + answer.screen)
-        (character + answer.character) (line + 1)
-    next more part answer p e =
+    pub next : line < lines → (number : ℕ) → number ≡ line → (part : List ℕ) (answer : PaintedLine)
+        → part ≡ pixels (line_cells ram state.counter number registers.mode)
+        → answer ≡ painted_line ram state.counter number registers.mode
+        → Reached (put_mid (line_length * line) (line_length * line + line_length - line_length * line) frame part) answer.registers
+        (screen + answer.screen) (character + answer.character) (line + 1)
+    next more number here-is part answer p e =
         let mode = mode_before ram state.mode line in
         let cells = line_of ram state.counter state.mode line in
-        let pixels-are : part ≡ pixels cells = p ∙ ap (λ (m : ℕ). pixels (line_cells ram state.counter line m)) here.path in
-        let is : answer ≡ painted_line ram state.counter line mode = e ∙ ap (painted_line ram state.counter line) here.path in
+        let pixels-are : part ≡ pixels cells = p ∙ ap₂ (λ (l m : ℕ). pixels (line_cells ram state.counter l m)) here-is here.path in
+        let is : answer ≡ painted_line ram state.counter line mode = e ∙ ap₂ (painted_line ram state.counter) here-is here.path in
         let size : length part ≡ line_length = ap length pixels-are ∙ line_pixels ram state.counter line mode in
         let fits : line_length * line + line_length ≤ length frame = omega arith in
         let grown = lines_next ram state.counter state.mode line in
         record {
-          within = omega arith;
           size = piece_length line_length line frame fits part size ∙ here.size;
           filled = piece_done line_length line frame fits part size ∙ ap₂ ◌++◌ here.filled pixels-are ∙ sym (ap pixels grown ∙ pixels_append (first line) cells);
           path = ap (λ (a : PaintedLine). a.registers.mode) is ∙ sym (mode_next ram state.mode line);
@@ -82,25 +84,22 @@ module _ (image : Image) (state : State) where
     few = omega (arith, here.characters, characters_down ram state.counter state.mode line)
 
     -- the line's addresses are marked after those of the lines before it
-    pub next_marked : (before marks after : List ℕ) → marks ≡ marked before (used (first line))
-        → after ≡ marked marks (used (line_cells ram state.counter line registers.mode))
-        → after ≡ marked before (used (first (line + 1)))
-    next_marked before marks after m a =
+    pub next_marked : (number : ℕ) → number ≡ line → (marking : Bool) (before marks after : List ℕ) → Marked marking line before marks
+        → after ≡ cond marking (marked marks (used (line_cells ram state.counter number registers.mode))) marks
+        → Marked marking (line + 1) before after
+    next_marked number here-is true before marks after m a =
         let cells = line_of ram state.counter state.mode line in
         a
-        ∙ ap₂ (λ (l : List ℕ) (mode : ℕ). marked l (used (line_cells ram state.counter line mode))) m here.path
+        ∙ ap₂ (λ (l : List ℕ) (n : ℕ). marked l (used (line_cells ram state.counter n registers.mode))) m here-is
+        ∙ ap (λ (mode : ℕ). marked (marked before (used (first line))) (used (line_cells ram state.counter line mode))) here.path
         ∙ marks_join before (used (first line)) (used cells)
         ∙ ap (marked before) (sym (ap used (lines_next ram state.counter state.mode line) ∙ used_append (first line) cells))
+    next_marked number here-is false before marks after m a = a ∙ m
 
-    pub all : lines ≤ line
+    pub all : line ≡ lines
         → (answered (after_frame state) registers.mode screen character ≡ painted (after_frame state) (frame_cells image (with_profile 1 state)))
         × (frame ≡ pixels (frame_cells image (with_profile 1 state)))
-    all end =
-        let e : line ≡ lines = omega arith in (
-          rw (here.path, here.screens, here.characters, e, mode_down ram state.counter state.mode lines, frame_uses_screen_bytes image (with_profile 1 state)),
-          sym (take_all (line_length * line) frame (omega arith)) ∙ here.filled ∙ ap (λ (n : ℕ). pixels (first n)) e,
-        )
-
-    pub all_marked : lines ≤ line → (before marks : List ℕ) → marks ≡ marked before (used (first line))
-        → marks ≡ marked before (used (frame_cells image (with_profile 1 state)))
-    all_marked end before marks m = let e : line ≡ lines = omega arith in m ∙ ap (λ (n : ℕ). marked before (used (first n))) e
+    all end = (
+      rw (here.path, here.screens, here.characters, end, mode_down ram state.counter state.mode lines, frame_uses_screen_bytes image (with_profile 1 state)) refl,
+      sym (take_all (line_length * line) frame (omega arith)) ∙ here.filled ∙ ap (λ (n : ℕ). pixels (first n)) end,
+    )

@@ -1,16 +1,17 @@
 -- What is read off cells that are joined: pixels, used addresses and the mode left, each a reading of the parts.
 -- Assumes nothing.
 use Prim.Native.Nat.{ℕ, ◌+◌, ◌≤◌}
-use mathlib.Core.Bool.{cond}
+use Rattle.std.specs.Prelude.{is_some}
+use Rattle.std.specs.Int.{from_bool}
+use Rattle.std.specs.Option.{option_to_list}
 use mathlib.Core.List.{List, [], ◌∷◌, ◌++◌, append-nil, map-append, flat_map, Option-to_list}
-use mathlib.Core.Option.{Option, none, some, get_or}
+use mathlib.Core.Option.{Option, none, some}
 use mathlib.Core.Path.{◌≡◌, refl, ap}
 use native.Mathlib.Omega.{arith}
-use lib.Dec.{eqb}
 use lib.ListN.{length, length-append, length-map}
 use Rattle.machine.proofs.Lists.{flat_map_append, flatten_append}
 use Rattle.video.specs.Cell.{Cell, pixels, screen_addresses, character_addresses, used, mode_left}
-use Rattle.video.specs.Internal.{painted_cell, used_by}
+use Rattle.video.specs.Internal.{optional, painted_cell, used_by}
 
 module _ (xs ys : List Cell) where
   pub pixels_append : pixels (xs ++ ys) ≡ pixels xs ++ pixels ys
@@ -31,13 +32,18 @@ pub characters_one : (xs : List Cell) (x : Cell)
 unfolding character_addresses flat_map
 characters_one xs x = simp (characters_append, append-nil)
 
+-- whether there is one
+pub one_counted : (character : Option ℕ) → from_bool (is_some (optional character)) ≡ length (Option-to_list character)
+unfolding Option-to_list
+one_counted none = refl
+one_counted (some address) = refl
+
 -- its addresses, as the painted cell has them
 pub used_one : (x : Cell) → used_by (painted_cell x) ≡ used (x ∷ [])
 unfolding used flat_map Option-to_list
 used_one x = ap (λ (l : List ℕ). x.screen ∷ l) (go x.character)
   where
-    go : (character : Option ℕ)
-        → cond (eqb (length (Option-to_list character)) 1) (get_or character x.screen ∷ []) [] ≡ Option-to_list character ++ []
+    go : (character : Option ℕ) → option_to_list (optional character) ≡ Option-to_list character ++ []
     go none = refl
     go (some address) = refl
 

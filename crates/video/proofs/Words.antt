@@ -5,7 +5,7 @@ use mathlib.Core.Bool.{Bool, true, false, cond}
 use mathlib.Core.List.{List, [], ◌∷◌, ◌++◌, map}
 use mathlib.Core.Option.{Option, none, some}
 use mathlib.Core.Path.{◌≡◌, refl, sym, ap, ap₂, ◌∙◌}
-use native.Mathlib.Nat.{add-mul, mul-add, mul_left_comm, mul-le-mul}
+use native.Mathlib.Nat.{add-mul, mul-add, mul_left_comm}
 use native.Mathlib.Omega.{arith}
 use lib.Bits.{bit_and, and_zero_r, and_block, and_mask}
 use lib.Dec.{eqb, eqb→eq}
@@ -71,10 +71,6 @@ mixed ink paper [] = omega arith
 mixed ink paper (none ∷ bits) = omega (arith, more ink paper 0 0 bits, mixed ink paper bits)
 mixed ink paper (some true ∷ bits) = omega (arith, more ink paper 1 0 bits, mixed ink paper bits)
 mixed ink paper (some false ∷ bits) = omega (arith, more ink paper 0 1 bits, mixed ink paper bits)
-
--- a colour is at most 7, in every byte
-pub colour_times : (colour n : ℕ) → colour ≤ 7 → colour * n ≤ 7 * n
-colour_times colour n c = mul-le-mul c (omega arith)
 
 -- the bits of a pattern, the leftmost pixel first, with the gap after the fourth
 abbrev pub bits_of : ℕ → List (Option Bool)

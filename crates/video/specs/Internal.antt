@@ -1,12 +1,13 @@
 -- What only the contracts of functions inside the crate cite; no promise to others rests on this page.
 -- Assumes nothing.
-use Rattle.std.specs.Prelude.{ℕ, zero, suc, ◌+◌, ◌-◌, ◌*◌, ◌/◌, ◌%◌, cond, eqb, length, take, drop}
-use mathlib.Core.List.{List, [], ◌∷◌, ◌++◌, map, Option-to_list}
-use Rattle.std.proofs.Math.Option.{get_or}
+use Rattle.std.specs.Prelude.{ℕ, zero, suc, ◌+◌, ◌*◌, ◌/◌, ◌%◌, cond, length, take, drop}
+use Rattle.std.specs.Prelude.{Option, None, Some}
+use Rattle.std.specs.Option.{option_to_list}
+use mathlib.Core.List.{List, [], ◌∷◌, ◌++◌, map}
+use Rattle.std.proofs.Math.Option as maybe
 use Rattle.machine.specs.Bits.{bit}
 use Rattle.machine.specs.Image.{Image, block_length, folded}
 use Rattle.machine.specs.Sizes.{columns}
-use Rattle.card.specs.Card.{text_start, hires_start}
 use Rattle.used_map.specs.Map.{byte_bits}
 use Rattle.video.specs.Address.{video_block}
 use Rattle.video.specs.Cell.{Cell, screen_addresses, character_addresses}
@@ -15,7 +16,6 @@ use Rattle.video.specs.Pattern.{pattern_weights, pattern_colours, complemented}
 use Rattle.video.specs.Ram.{Ram}
 use Rattle.video.specs.Registers.{shown_ink}
 use Rattle.video.specs.State.{with_mode}
-use Rattle.video.specs.declared.address.Scanline.{Scanline}
 use Rattle.video.specs.declared.answer.Painted.{Painted}
 use Rattle.video.specs.declared.cell.PaintedCell.{PaintedCell}
 use Rattle.video.specs.declared.line.PaintedLine.{PaintedLine}
@@ -30,14 +30,15 @@ block_of profile image = take block_length (drop (folded profile video_block) im
 abbrev pub block_ram : Image → Ram
 block_ram block = record { profile = 1; image = block }
 
--- the record of a line: its starts, counted from the block's
-abbrev pub scanline : ℕ → Scanline
-scanline line = record { number = line; text = text_start line - video_block; hires = hires_start line - video_block }
-
 -- the six pixels of a pattern under a screen byte
 abbrev pub shown : Registers → ℕ → ℕ → ℕ → List ℕ
 shown registers counter byte pattern =
     map (complemented byte) (pattern_colours (shown_ink registers counter) registers.paper pattern)
+
+-- an address, if there is one, as the program holds it
+abbrev pub optional : maybe.Option ℕ → Option ℕ
+optional maybe.none = None
+optional (maybe.some address) = Some address
 
 -- what is handed back of a cell
 abbrev pub painted_cell : Cell → PaintedCell
@@ -46,13 +47,12 @@ painted_cell c =
       registers = c.registers;
       colours = c.colours;
       screen = c.screen;
-      character = length (Option-to_list c.character);
-      pattern = get_or c.character c.screen;
+      character = optional c.character;
     }
 
 -- the addresses that a cell used, read off that
 abbrev pub used_by : PaintedCell → List ℕ
-used_by painted = painted.screen ∷ cond (eqb painted.character 1) (painted.pattern ∷ []) []
+used_by painted = painted.screen ∷ option_to_list painted.character
 
 -- what is handed back of a line that begins in the given mode
 abbrev pub painted_line : Ram → ℕ → ℕ → ℕ → PaintedLine

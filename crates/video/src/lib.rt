@@ -3,13 +3,13 @@
 
 mod address;
 mod answer;
-mod bits;
 mod cell;
 mod frame;
 mod line;
 mod map;
 mod pattern;
 mod registers;
+mod source;
 mod state;
 
 pub use address::{Address, screen_address};

@@ -26,7 +26,7 @@ pub(crate) fn mark_cell(map: &mut [u8], cell: PaintedCell)
     ensures { map.new ≡ marked map.old (used_by cell) }
 {
     mark(map, cell.screen);
-    if cell.character == 1 {
-        mark(map, cell.pattern);
+    if let Some(address) = cell.character {
+        mark(map, address);
     }
 }

@@ -4,7 +4,7 @@ ghost use Rattle.machine.specs.Bits.{bit};
 ghost use Rattle.video.specs.Internal.{pixel_bytes, spread_word};
 ghost use Rattle.video.specs.Pattern.{pattern_colours, complemented};
 
-use crate::bits::{bit, wide};
+use machine::{CELL_LENGTH, bit};
 
 // Six copies of a pattern: after COPY_SHIFT the lowest bit of each pixel's byte is the pixel's own.
 const COPIES: u64 = 0x20100008040201;
@@ -20,7 +20,7 @@ const WHITES: u64 = 0x07070007070707;
 const INVERSE: u64 = 128;
 
 // A pattern is the low six bits of its byte.
-pub(crate) fn pixels(ink: u64, paper: u64, pattern: u8, byte: u8) -> [u8; 6]
+pub(crate) fn pixels(ink: u64, paper: u64, pattern: u8, byte: u8) -> [u8; CELL_LENGTH]
     requires { (ink ≤ 7) × (paper ≤ 7) }
     ensures { result ≡ map (complemented byte) (pattern_colours ink paper pattern) }
 {
@@ -34,7 +34,7 @@ fn complement(byte: u8, word: u64) -> u64
     requires { word ≤ 0x07070007070707 }
     ensures { result ≡ cond (bit 128 byte) (0x07070007070707 - word) word }
 {
-    if bit(INVERSE, wide(byte)) {
+    if bit(INVERSE, u64::from(byte)) {
         WHITES - word
     } else {
         word
@@ -45,25 +45,13 @@ fn complement(byte: u8, word: u64) -> u64
 fn spread(pattern: u8) -> u64
     ensures { result ≡ spread_word pattern }
 {
-    wide(pattern) * COPIES / COPY_SHIFT & ONES
+    u64::from(pattern) * COPIES / COPY_SHIFT & ONES
 }
 
 // The bytes of a word that are pixels, the lowest first.
-fn bytes_of(word: u64) -> [u8; 6]
+fn bytes_of(word: u64) -> [u8; CELL_LENGTH]
     ensures { result ≡ pixel_bytes word }
 {
-    let second = word / 256;
-    let third = second / 256;
-    let fourth = third / 256;
-    let gap = fourth / 256;
-    let fifth = gap / 256;
-    let sixth = fifth / 256;
-    [
-        (word % 256) as u8,
-        (second % 256) as u8,
-        (third % 256) as u8,
-        (fourth % 256) as u8,
-        (fifth % 256) as u8,
-        (sixth % 256) as u8,
-    ]
+    let [first, second, third, fourth, _, fifth, sixth, _] = word.to_le_bytes();
+    [first, second, third, fourth, fifth, sixth]
 }

@@ -1,10 +1,11 @@
 // The four registers of the video half: they travel as one value from cell to cell and from line to line.
-ghost use Rattle.std.specs.Prelude.{◌≡◌, ◌≤◌};
+ghost use Rattle.std.specs.Prelude.{◌≡◌};
 ghost use Rattle.video.specs.Internal.{shown};
 ghost use Rattle.video.specs.Registers.{line_reset, is_attribute, latched, shown_ink};
 
-use crate::bits::{bit, both, choose, wide};
 use crate::pattern::pixels;
+use machine::{CELL_LENGTH, bit, choose};
+use std::marker::Model;
 
 const WHITE: u64 = 7;
 
@@ -25,6 +26,20 @@ pub(crate) struct Registers {
     pub style: u64,
     pub paper: u64,
     pub mode: u64,
+}
+
+// Ink and paper are always colours. A model and no ghost field: the rules speak of any four numbers, with no proof beside them.
+impl Model for Registers {
+    ghost use Rattle.std.specs.Prelude.{◌≤◌};
+    ghost use Rattle.video.specs.Held.{Held};
+
+    ghost Value = { Held };
+
+    ghost view = { λ r. record { ink = r.ink; style = r.style; paper = r.paper; mode = r.mode } };
+
+    ghost inverse = { λ h. record { ink = h.ink; style = h.style; paper = h.paper; mode = h.mode } };
+
+    ghost invariant = { λ r. (r.ink ≤ 7) × (r.paper ≤ 7) };
 }
 
 pub(crate) fn is_attribute(byte: u8) -> bool
@@ -54,42 +69,20 @@ impl Registers {
     }
 
     // The low five bits choose the register, the low three are its value.
-    pub(crate) fn latch_attribute(self, byte: u8) -> Self
-        ensures { result ≡ latched self byte }
+    pub(crate) fn latch(&mut self, byte: u8)
+        ensures { self.new ≡ latched self.old byte }
     {
-        let choice = byte % 32;
-        let value = wide(byte % 8);
-        match choice {
-            0..=7 => Self {
-                ink: value,
-                style: self.style,
-                paper: self.paper,
-                mode: self.mode,
-            },
-            8..=15 => Self {
-                ink: self.ink,
-                style: value,
-                paper: self.paper,
-                mode: self.mode,
-            },
-            16..=23 => Self {
-                ink: self.ink,
-                style: self.style,
-                paper: value,
-                mode: self.mode,
-            },
-            _ => Self {
-                ink: self.ink,
-                style: self.style,
-                paper: self.paper,
-                mode: value,
-            },
+        let value = u64::from(byte % 8);
+        match byte % 32 {
+            0..=7 => self.ink = value,
+            8..=15 => self.style = value,
+            16..=23 => self.paper = value,
+            _ => self.mode = value,
         }
     }
 
     // The six pixels of a pattern, which is the low six bits of a byte, under a screen byte.
-    pub(crate) fn paint_colours(self, counter: u8, pattern: u8, byte: u8) -> [u8; 6]
-        requires { (self.ink ≤ 7) × (self.paper ≤ 7) }
+    pub(crate) fn paint_colours(self, counter: u8, pattern: u8, byte: u8) -> [u8; CELL_LENGTH]
         ensures { result ≡ shown self counter byte pattern }
     {
         pixels(self.shown_ink(counter), self.paper, pattern, byte)
@@ -99,7 +92,7 @@ impl Registers {
     fn shown_ink(self, counter: u8) -> u64
         ensures { result ≡ shown_ink self counter }
     {
-        let hidden = both(bit(FLASH, self.style), counter >= HIDDEN_FROM);
+        let hidden = bit(FLASH, self.style) && counter >= HIDDEN_FROM;
         choose(hidden, self.paper, self.ink)
     }
 }

@@ -7,6 +7,7 @@ use machine::{LAST_COUNT, PROFILE_48K};
 
 const FRESH_MODE: u8 = 2;
 
+// Numbers and no kinds: a record of the C interface, in which a caller may hand in any.
 #[repr(C)]
 #[derive(Clone, Copy)]
 pub struct State {
@@ -32,11 +33,7 @@ impl State {
     pub(crate) fn with_mode(self, mode: u8) -> Self
         ensures { result ≡ with_mode mode self }
     {
-        State {
-            mode,
-            counter: self.counter,
-            profile: self.profile,
-        }
+        State { mode, ..self }
     }
 
     // A frame moves the counter; its cells set the mode.
@@ -45,9 +42,8 @@ impl State {
         ensures { result ≡ after_frame self }
     {
         State {
-            mode: self.mode,
             counter: next_counter(self.counter),
-            profile: self.profile,
+            ..self
         }
     }
 }

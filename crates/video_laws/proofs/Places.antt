@@ -5,11 +5,12 @@ use mathlib.Core.List.{List, [], ◌∷◌, ◌++◌, map}
 use mathlib.Core.Path.{sym, subst, ◌∙◌}
 use native.Mathlib.Omega.{arith}
 use lib.ListN.{length-map}
+use Rattle.std.proofs.lemmas.List.{get_or-map}
 use Rattle.machine.specs.Image.{image_length}
 use Rattle.machine.specs.Lists.{gather, Each}
 use Rattle.machine.specs.Sizes.{cell_length, columns, lines}
 use Rattle.machine.proofs.Each.{each_map, each_flatten}
-use Rattle.machine.proofs.Lists.{flatten_at, map_at, gather_at, singles_at}
+use Rattle.machine.proofs.Lists.{flatten_at, gather_at, singles_at}
 use Rattle.video.specs.Cell.{Cell, cell, screen_byte, pixels, mode_left}
 use Rattle.video.specs.Frame.{mode_before, line_of, first_lines}
 use Rattle.video.specs.Line.{cell_at, first_cells}
@@ -78,7 +79,7 @@ unfolding pixels
 pixel_of_cell cells i k other sixes hi hk =
     let colours : Cell → List ℕ = λ (c : Cell). c.colours in
     flatten_at cell_length (map colours cells) (each_map Six colours cells sixes) i k 0 (rw (length-map cells colours) hi) hk
-    ∙ rw (map_at colours cells i other [] hi)
+    ∙ rw (get_or-map colours cells i other [] hi)
 
 -- the mode in force, along joined cells
 force_append : (mode : ℕ) (xs ys : List Cell) → InForce mode xs → InForce (mode_left mode xs) ys → InForce mode (xs ++ ys)

@@ -1,13 +1,7 @@
--- The digits written, with the text of the pixels still to come, are the whole text.
-use Rattle.std.proofs.Common.{◌-◌, ◌≡◌, ◌≤◌, ◌++◌, take, drop}
-use Rattle.listing.specs.Text.{line_text}
+-- The digits of the pixels so far.
+use Rattle.std.proofs.Common.{◌≡◌, map, take}
+use Rattle.listing.specs.Text.{pixel_digit}
 use Rattle.listing.proofs.text.line_text.Given as goal
 
-abbrev pub invariant-loop-i : goal.invariant-loop-i
-invariant-loop-i l = record {
-  upper_bound : l.i ≤ l.count;
-  whole : take l.i l.text ++ line_text (drop l.i l.pixels) ≡ line_text l.pixels;
-}
-
-abbrev pub decreases-loop-i : goal.decreases-loop-i
-decreases-loop-i l = l.count - l.i
+abbrev pub invariant-loop-pixel : goal.invariant-loop-pixel
+invariant-loop-pixel l = l.text.bytes ≡ map pixel_digit (take l.pixel-index l.pixels)

@@ -4,4 +4,4 @@ use Rattle.video.proofs.Words.{spread_by_copies}
 use Rattle.video.proofs.pattern.spread.Goals as goal
 
 pub returns : goal.returns
-returns c = rw c.wide.ensures (spread_by_copies c.args.pattern (omega arith))
+returns c = rw c.from.ensures (spread_by_copies c.args.pattern (omega arith))

@@ -1,6 +1,0 @@
--- How many numbers are left.
-use Rattle.std.proofs.Common.{◌-◌, length}
-use Rattle.figures.proofs.mixing.digest_numbers.Given as goal
-
-abbrev pub decreases-loop-i : goal.decreases-loop-i
-decreases-loop-i l = length l.numbers - l.i
