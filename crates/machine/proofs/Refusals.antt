@@ -1,17 +1,17 @@
 -- What a status tells: which of two things is given, and where it is 0 that each test of the list was passed.
 -- Assumes nothing.
-use Prim.Native.Nat.{ℕ, zero, suc, ◌≤◌, ◌<◌}
+use Prim.Native.Nat.{ℕ, zero, suc, ◌≤◌}
 use Rattle.std.specs.Prelude.{Result, Err}
 use mathlib.Core.Bool.{Bool, true, false, not, cond}
 use mathlib.Core.Path.{◌≡◌, refl, subst}
 use native.Mathlib.Omega.{arith}
-use lib.Dec.{T, eqb, leb, ltb}
-use borrow.Author.Tests.{eq-eqb, eqb-true, leb-false, ltb-false, not-false}
+use lib.Dec.{T, eqb, ltb}
+use borrow.Author.Tests.{eq-eqb, eqb-true, ltb-false, not-false}
 use Rattle.machine.specs.Image.{is_16k, image_length}
-use Rattle.machine.specs.Refusal.{number_of, status_of, given, if_done, memory_check, output_check, mode_check, counter_check, line_check, column_check, kind_check, profile_check, controller_check, trace_check}
+use Rattle.machine.specs.Refusal.{number_of, status_of, given, if_done, memory_check, output_check, kind_check, profile_check, controller_check, trace_check}
 use Rattle.machine.specs.declared.refusal.Refusal.{Refusal}
 use Rattle.machine.specs.declared.refusal.Refusal.TheVariants.{Memory, Output, Mode, Counter, Line, Column, Kind, Trace, Profile, Controller}
-use Rattle.machine.specs.Sizes.{columns, lines, last_mode, last_count, last_kind, last_profile, longest_trace}
+use Rattle.machine.specs.Sizes.{last_kind, last_profile, longest_trace}
 
 pub done : {A : Type 0} (n : ℕ) (a b : A) → n ≡ 0 → if_done n a b ≡ a
 done zero a b e = refl
