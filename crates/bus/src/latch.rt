@@ -21,12 +21,12 @@ pub struct Latches {
     pub second: u8,
 }
 
-// No controller, and latches that nothing has been written to.
+// No controller, and latches that nothing has been written to. A derived Default would not name the controller.
 pub fn fresh_latches() -> Latches
     ensures { result ≡ fresh_latches }
 {
     Latches {
-        kind: Controller::None as u8,
+        kind: u8::from(Controller::None),
         first: 0,
         second: 0,
     }

@@ -40,11 +40,11 @@ pub enum Target {
     Unassigned = 6,
 }
 
-impl Target {
-    pub(crate) fn number(self) -> u8
-        ensures { result ≡ target_number self }
-    {
-        self as u8
+impl From<Target> for u8 {
+    ghost from_gives = { λ target number. number ≡ target_number target };
+
+    fn from(target: Target) -> u8 {
+        target as u8
     }
 }
 
@@ -71,11 +71,11 @@ pub fn decode(profile: u8, latches: Latches, address: u16) -> Decoded
     match try_decode(profile, latches, address) {
         Ok(reached) => Decoded {
             status: DONE,
-            target: reached.target.number(),
+            target: u8::from(reached.target),
             number: reached.number,
         },
-        Err(refusal) => Decoded {
-            status: refusal.number(),
+        Err(reason) => Decoded {
+            status: u8::from(reason),
             target: 0,
             number: 0,
         },
@@ -91,7 +91,8 @@ fn try_decode(profile: u8, latches: Latches, address: u16) -> Result<Place, Refu
     Ok(reach(profile, controller, latches, address))
 }
 
-// The controller of a machine, by its kind. Refusals 7, 13.
+// The controller of a machine, by its kind. Refusals 7, 13. That it is the controller of the latches is handed on to the two functions that
+// need it: a struct of the two would be made here and taken apart there.
 pub(crate) fn controller_of(profile: u8, kind: u8) -> Result<Controller, Refusal>
     ensures status { status_of result ≡ refusal (kind_check kind ∷ controller_check profile kind ∷ []) }
     ensures value { IfOk result (λ controller. kind_of controller ≡ kind) }
@@ -101,14 +102,14 @@ pub(crate) fn controller_of(profile: u8, kind: u8) -> Result<Controller, Refusal
     Ok(controller)
 }
 
-// Profile, latches and address come one by one, as C hands them over: a struct of them would be made four times and read twice.
+// Profile, latches and address come one by one, as C hands them over: a struct of them would be made by each caller and read once.
 #[tactic(auto, unfolding(crate::specs::Place::place))]
 pub(crate) fn reach(profile: u8, controller: Controller, latches: Latches, address: u16) -> Place
     requires { kind_of controller ≡ latches.kind }
     ensures { result ≡ place profile latches address }
 {
-    let first = latches.first as u64;
-    let second = latches.second as u64;
+    let first = u64::from(latches.first);
+    let second = u64::from(latches.second);
     match (controller, address) {
         (Controller::Microdisc, 0x0310..=0x0314 | 0x0318) => {
             Place::counted(Target::Controller, PAGE_3, address)

@@ -21,8 +21,8 @@ pub struct Comparison {
 }
 
 // What the lines so far come to: the sides of the rectangle, and how many pixels and cells differ. Before the first difference the
-// left side is 240 and the top 224, right and bottom are 0: the next line is searched up to them and folded in by `min` and `max` as
-// ever, where an Option of a rectangle would have a case of its own in each. The cells are all that differ, and so no length of the list.
+// left side is 240 and the top 224, right and bottom are 0: the next line is searched up to them and folded in by `min` and `max`,
+// where an Option of a rectangle would have a case of its own in each. The cells are all that differ, and so no length of the list.
 #[derive(Clone, Copy)]
 pub(crate) struct Found {
     pub left: usize,
@@ -37,7 +37,7 @@ pub(crate) fn refused(reason: Refusal) -> Comparison
     ensures { result ≡ uncompared (number_of reason) }
 {
     Comparison {
-        status: reason.number(),
+        status: u8::from(reason),
         empty: false,
         first_x: 0,
         last_x: 0,

@@ -42,13 +42,13 @@ fn pair(out: &impl Print, number: u8, limit: u64) -> Result<()> {
 
 // Another byte at each place whose number of the generator is below the limit.
 pub(crate) fn change(frame: &mut [u8], seed: u64, limit: u64) {
-    let mut x = seed;
-    for byte in frame.iter_mut() {
-        x = mixing::step(x);
+    mixing::replace(frame, seed, |byte, x| {
         if (x >> 40) % 65_536 < limit {
-            *byte = byte.wrapping_add(1);
+            byte.wrapping_add(1)
+        } else {
+            byte
         }
-    }
+    });
 }
 
 // Of each quadruple of lengths one is wrong.

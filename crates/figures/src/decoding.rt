@@ -44,7 +44,7 @@ fn with_controller(
 ) -> Result<()> {
     for (first, second) in values {
         let latches = Latches {
-            kind: controller as u8,
+            kind: u8::from(controller),
             first: *first,
             second: *second,
         };

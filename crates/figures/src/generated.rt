@@ -85,11 +85,7 @@ impl Sample {
 
 impl Kind {
     pub(crate) fn fill(self, bytes: &mut [u8], seed: u64) {
-        let mut x = seed;
-        for byte in bytes.iter_mut() {
-            x = mixing::step(x);
-            *byte = self.shaped(x);
-        }
+        mixing::replace(bytes, seed, |_, x| self.shaped(x));
     }
 
     // A byte of this kind, made from two bytes of a number of the generator.

@@ -1,5 +1,6 @@
 // The figures of document 01 that are run, the decode of every address, and digests of generated frames, a line each; then the same
-// of the 16K machine; then maps of used addresses, comparisons of frames, slips of lines, and the card of line starts.
+// of the 16K machine; then maps of used addresses, comparisons of frames, slips of lines, and the card of line starts. Each function that
+// prints is handed `out`, a handle to the output.
 #![tactic(auto)]
 
 mod comparing;

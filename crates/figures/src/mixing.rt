@@ -15,6 +15,17 @@ pub(crate) fn seed(i: u8) -> u64 {
     SEED + i as u64
 }
 
+// Another byte at each place, made from the one there and the next number.
+pub(crate) fn replace<F: Fn(u8, u64) -> u8>(bytes: &mut [u8], seed: u64, byte_at: F)
+    requires { F.IsAlwaysCallable byte_at }
+{
+    let mut x = seed;
+    for byte in bytes.iter_mut() {
+        x = step(x);
+        *byte = byte_at(*byte, x);
+    }
+}
+
 #[derive(Clone, Copy)]
 pub(crate) struct Digest(u64);
 

@@ -10,6 +10,7 @@ use native.Mathlib.Omega.{arith}
 use lib.ListN.{replicate}
 use Rattle.machine.specs.Lists.{gather, Each}
 
+-- by membership, as `Each` is defined: the library's laws are of its own `All`
 module _ {A : Type 0} (P : A → Type 0) where
   pub each_none : Each P []
   each_none x m = absurd (Memᴰ.not-nil m)
@@ -39,6 +40,7 @@ module _ {A : Type 0} (P : A → Type 0) where
       ⊎_elim (λ (e : k ≡ n). rw e (each_right (gather f n) (f n) p)) (λ less. each_piece f n (each_left (gather f n) (f n) p) k less)
       (eq-or-lt_of_le (omega arith))
 
+-- by membership, as `Each` is defined: the library's laws are of its own `All`
 module _ {A : Type 0} (P : A → Type 0) where
   pub each_replicate : (n : ℕ) {x : A} → P x → Each P (replicate n x)
   each_replicate zero p = each_none P

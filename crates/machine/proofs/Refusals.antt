@@ -1,17 +1,17 @@
--- What a status tells: which of two things is given, and where it is 0 that each test of the nest was passed.
+-- What a status tells: which of two things is given, and where it is 0 that each test of the list was passed.
 -- Assumes nothing.
-use Prim.Native.Nat.{ℕ, zero, suc, ◌≤◌, ◌<◌}
+use Prim.Native.Nat.{ℕ, zero, suc, ◌≤◌}
 use Rattle.std.specs.Prelude.{Result, Err}
 use mathlib.Core.Bool.{Bool, true, false, not, cond}
 use mathlib.Core.Path.{◌≡◌, refl, subst}
 use native.Mathlib.Omega.{arith}
-use lib.Dec.{T, eqb, leb, ltb}
-use borrow.Author.Tests.{eq-eqb, eqb-true, leb-false, ltb-false, not-false}
+use lib.Dec.{T, eqb, ltb}
+use borrow.Author.Tests.{eq-eqb, eqb-true, ltb-false, not-false}
 use Rattle.machine.specs.Image.{is_16k, image_length}
-use Rattle.machine.specs.Refusal.{number_of, status_of, given, if_done, memory_check, output_check, mode_check, counter_check, line_check, column_check, kind_check, profile_check, controller_check, trace_check}
+use Rattle.machine.specs.Refusal.{number_of, status_of, given, if_done, memory_check, output_check, kind_check, profile_check, controller_check, trace_check}
 use Rattle.machine.specs.declared.refusal.Refusal.{Refusal}
 use Rattle.machine.specs.declared.refusal.Refusal.TheVariants.{Memory, Output, Mode, Counter, Line, Column, Kind, Trace, Profile, Controller}
-use Rattle.machine.specs.Sizes.{columns, lines, last_mode, last_count, last_kind, last_profile, longest_trace}
+use Rattle.machine.specs.Sizes.{last_kind, last_profile, longest_trace}
 
 pub done : {A : Type 0} (n : ℕ) (a b : A) → n ≡ 0 → if_done n a b ≡ a
 done zero a b e = refl
@@ -46,12 +46,12 @@ pub record Passed (Fact : Type 0) (later : ℕ) : Type 0 where
   pub holds : Fact
   pub rest : later ≡ 0
 
--- a check that is in a nest whose status is 0 does not apply
+-- a check of a list whose status is 0 does not apply
 unapplied : (applies : Bool) (number later : ℕ) → T (not (eqb number 0)) → cond applies number later ≡ 0 → Passed (applies ≡ false) later
 unapplied true number later t e = absurd (subst (λ (b : Bool). T (not b)) (eq-eqb number 0 e) t)
 unapplied false number later t e = record { holds = refl; rest = e }
 
--- the three forms of a test: a length that is wanted, a largest number, a first number that is too large
+-- two forms of a test: a length that is wanted, a largest number
 module _ (number later : ℕ) (numbered : T (not (eqb number 0))) where
   equal : (wanted size : ℕ) → cond (not (eqb size wanted)) number later ≡ 0 → Passed (size ≡ wanted) later
   equal wanted size e =
@@ -63,11 +63,6 @@ module _ (number later : ℕ) (numbered : T (not (eqb number 0))) where
       let p = unapplied (ltb last n) number later numbered e in
       record { holds = ltb-false last n p.holds; rest = p.rest }
 
-  below : (limit n : ℕ) → cond (leb limit n) number later ≡ 0 → Passed (n < limit) later
-  below limit n e =
-      let p = unapplied (leb limit n) number later numbered e in
-      record { holds = leb-false limit n p.holds; rest = p.rest }
-
 -- what each test has shown where it was passed
 module _ (later : ℕ) where
   pub memory_passed : (profile size : ℕ) → given (memory_check profile size) later ≡ 0 → Passed (size ≡ image_length profile) later
@@ -75,18 +70,6 @@ module _ (later : ℕ) where
 
   pub output_passed : (wanted size : ℕ) → given (output_check wanted size) later ≡ 0 → Passed (size ≡ wanted) later
   output_passed wanted size = equal 2 later tt wanted size
-
-  pub mode_passed : (mode : ℕ) → given (mode_check mode) later ≡ 0 → Passed (mode ≤ last_mode) later
-  mode_passed mode = at_most 3 later tt last_mode mode
-
-  pub counter_passed : (counter : ℕ) → given (counter_check counter) later ≡ 0 → Passed (counter ≤ last_count) later
-  counter_passed counter = at_most 4 later tt last_count counter
-
-  pub line_passed : (line : ℕ) → given (line_check line) later ≡ 0 → Passed (line < lines) later
-  line_passed line = below 5 later tt lines line
-
-  pub column_passed : (column : ℕ) → given (column_check column) later ≡ 0 → Passed (column < columns) later
-  column_passed column = below 6 later tt columns column
 
   pub kind_passed : (kind : ℕ) → given (kind_check kind) later ≡ 0 → Passed (kind ≤ last_kind) later
   kind_passed kind = at_most 7 later tt last_kind kind

@@ -1,5 +1,6 @@
 // The disk controllers, by their kinds.
-ghost use Rattle.machine.specs.Controller.{IsKind};
+ghost use Rattle.std.specs.Prelude.{◌≡◌};
+ghost use Rattle.machine.specs.Controller.{kind_of, IsKind};
 
 use crate::refusal::Refusal;
 
@@ -10,7 +11,15 @@ pub enum Controller {
     Jasmin = 2,
 }
 
-// Refusal 7.
+impl From<Controller> for u8 {
+    ghost from_gives = { λ controller kind. kind ≡ kind_of controller };
+
+    fn from(controller: Controller) -> u8 {
+        controller as u8
+    }
+}
+
+// The controller of a kind. Refusal 7.
 impl TryFrom<u8> for Controller {
     type Error = Refusal;
 

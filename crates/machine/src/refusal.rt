@@ -21,11 +21,11 @@ pub enum Refusal {
     Controller = 13,
 }
 
-impl Refusal {
-    pub fn number(self) -> u8
-        ensures { result ≡ number_of self }
-    {
-        self as u8
+impl From<Refusal> for u8 {
+    ghost from_gives = { λ reason number. number ≡ number_of reason };
+
+    fn from(reason: Refusal) -> u8 {
+        reason as u8
     }
 }
 
@@ -93,9 +93,10 @@ pub fn check_image(profile: u8, size: usize) -> Result<(), Refusal>
     check_memory(profile, size)
 }
 
+// Any number may be the kind, as in `controller_check`.
 pub fn check_controller(profile: u8, kind: u8) -> Result<(), Refusal>
     ensures { status_of result ≡ refusal (controller_check profile kind ∷ []) }
 {
-    let has_none = kind == Controller::None as u8;
+    let has_none = kind == u8::from(Controller::None);
     refuse_if(is_16k(profile) & !has_none, Refusal::Controller)
 }

@@ -29,7 +29,7 @@ struct Lines<'a> {
     ghost grabbed_len: { length grabbed.now ≡ line_length },
 }
 
-// A slip, and how many pixels disagree at it.
+// A slip, and how many pixels disagree at it: a usize, since with a u16 the search took twice as long.
 #[derive(Clone, Copy)]
 struct Candidate {
     slip: isize,
@@ -57,7 +57,7 @@ fn refused(reason: Refusal) -> Slip
     ensures { result ≡ unsearched (number_of reason) }
 {
     Slip {
-        status: reason.number(),
+        status: u8::from(reason),
         slip: 0,
         disagreements: 0,
     }

@@ -33,8 +33,8 @@ pub fn trace(memory: &mut [u8], profile: u8, latches: Latches, cycles: &mut [Cyc
                 latches: left,
             }
         }
-        Err(refusal) => Traced {
-            status: refusal.number(),
+        Err(reason) => Traced {
+            status: u8::from(reason),
             latches,
         },
     }

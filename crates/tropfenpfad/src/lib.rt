@@ -1,4 +1,4 @@
-// Every entry point under its C name. Each has the contract of the function that it calls.
+// Every entry point under its C name. Each has the contract of the function that it calls, and the parameters that C hands over.
 #![tactic(auto)]
 
 ghost use Rattle.std.specs.Prelude.{◌≡◌};

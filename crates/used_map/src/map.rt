@@ -2,6 +2,8 @@
 ghost use Rattle.std.specs.Prelude.{◌≡◌, [], ◌∷◌, ◌<◌, ◌^◌};
 ghost use Rattle.used_map.specs.Map.{byte_bits, marked};
 
+use machine::bit;
+
 // A bit for each of the 65,536 addresses, in both profiles.
 pub const MAP_LENGTH: usize = 8_192;
 
@@ -15,7 +17,7 @@ pub fn mark(map: &mut [u8], address: usize)
     if place < map.len() {
         let byte = map[place];
         let weight = bit_weight(address % BYTE_BITS);
-        if byte / weight % 2 == 0 {
+        if !bit(u64::from(weight), u64::from(byte)) {
             map[place] = byte + weight;
         }
     }

@@ -1,4 +1,4 @@
-pub mod Held
+pub mod RegisterValues
 pub mod State
 pub mod Ram
 pub mod Address

@@ -46,6 +46,7 @@ pub struct Address {
     pub address: u16,
 }
 
+// The profile is a number, as `fold` takes it.
 pub(crate) fn video_block(memory: &[u8], profile: u8) -> &[u8]
     requires { IsImage profile memory.now }
     ensures value { result.now ≡ block_of profile memory.now }
@@ -70,7 +71,7 @@ pub fn screen_address(profile: u8, line: usize, column: usize, mode: u8) -> Addr
             }
         }
         Err(reason) => Address {
-            status: reason.number(),
+            status: u8::from(reason),
             address: 0,
         },
     }

@@ -45,7 +45,7 @@ pub(crate) fn refused(reason: Refusal, state: State) -> Painted
     ensures { result ≡ unpainted (number_of reason) state }
 {
     Painted {
-        status: reason.number(),
+        status: u8::from(reason),
         state,
         screen: 0,
         character: 0,

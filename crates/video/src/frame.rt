@@ -32,7 +32,8 @@ pub fn paint_frame(memory: &[u8], state: State, frame: &mut [u8]) -> Painted
     }
 }
 
-// Refusals 12, 1, 2 for the frame. The checks take what C hands to the entry points, as these do.
+// Refusals 12, 1, 2 for the frame. Frames and lines have each their lists of checks, as in the definitions; the checks take memory and state
+// one by one, as C hands them to the entry points.
 fn check_lent(memory: &[u8], state: State, frame: &[u8]) -> Result<(), Refusal>
     ensures { status_of result ≡ refusal (frame_checks memory.now state frame.now) }
 {

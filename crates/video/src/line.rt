@@ -41,7 +41,8 @@ pub fn paint_line(memory: &[u8], state: State, line: usize, output: &mut [u8]) -
     }
 }
 
-// Refusals 12, 1, 2 for the line. The checks take what C hands to the entry points, as these do.
+// Refusals 12, 1, 2 for the line. Frames and lines have each their lists of checks, as in the definitions; the checks take memory and state
+// one by one, as C hands them to the entry points.
 fn check_lent(memory: &[u8], state: State, output: &[u8]) -> Result<(), Refusal>
     ensures { status_of result ≡ refusal (line_checks memory.now state output.now) }
 {

@@ -31,9 +31,9 @@ pub(crate) struct Registers {
 // Ink and paper are always colours. A model and no ghost field: the rules speak of any four numbers, with no proof beside them.
 impl Model for Registers {
     ghost use Rattle.std.specs.Prelude.{◌≤◌};
-    ghost use Rattle.video.specs.Held.{Held};
+    ghost use Rattle.video.specs.RegisterValues.{RegisterValues};
 
-    ghost Value = { Held };
+    ghost Value = { RegisterValues };
 
     ghost view = { λ r. record { ink = r.ink; style = r.style; paper = r.paper; mode = r.mode } };
 

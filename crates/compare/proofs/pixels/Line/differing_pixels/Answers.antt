@@ -1,4 +1,5 @@
 -- A pixel more adds 1 to the count where it differs, and the places of a line are 240 at most.
+-- The laws are those that `slips::candidate` takes too, one use each: a lemma of both would take all that they take.
 -- Assumes nothing.
 use Rattle.std.proofs.Common.{◌+◌, ◌*◌, ℕ, Bool, length, sym, ap, ap₂, ◌∙◌, arith}
 use mir.Val.{bool_byte}

@@ -1,4 +1,5 @@
 -- A pixel more is counted where it disagrees.
+-- The laws are those that `compare::differing_pixels` takes too, one use each: a lemma of both would take all that they take.
 -- Assumes nothing.
 use Rattle.std.proofs.Common.{arith, ◌≡◌, ℕ, ◌+◌, Bool, length, sym, ap, ap₂, ◌∙◌, w64, to_z, of_z, to_z-of_z}
 use mir.Val.{bool_byte}

@@ -1,5 +1,5 @@
 -- `video::source::Source::fill_frame` meets its contract: one line more is painted and counted, and marked where that is asked for, in
--- each turn.
+-- each turn. What the answers share is the law `next`: a lemma of their own over it would state the painted frame again.
 use Rattle.std.proofs.Common.{◌≡◌, not, eqb, ap, ◌∙◌, arith}
 use Rattle.machine.specs.Sizes.{lines}
 use Rattle.video.specs.Internal.{block_ram}

@@ -4,7 +4,7 @@ use Rattle.std.proofs.Common.{◌≡◌, ℕ, get_or, sym, ap, ◌∙◌}
 use Rattle.machine.specs.Image.{Image, byte_at}
 use Rattle.video.specs.Address.{screen_address}
 use Rattle.video.specs.Cell.{screen_byte}
-use Rattle.video.specs.Held.{Held}
+use Rattle.video.specs.RegisterValues.{RegisterValues}
 use Rattle.video.specs.Internal.{block_ram}
 use Rattle.video.proofs.Cells.{pattern_address, attribute_painted, picture_painted}
 use Rattle.video.proofs.source.Source.paint_cell.Goals as goal
@@ -18,7 +18,7 @@ read block screen line column mode is = ap (byte_at block) is
 pub returns-then-is_attribute : goal.returns-then-is_attribute
 returns-then-is_attribute c =
     let a = c.args in
-    let mode : c.before-2.inside.mode ≡ a.before.mode = ap (λ (h : Held). h.mode) c.before-2.view_is in
+    let mode : c.before-2.inside.mode ≡ a.before.mode = ap (λ (h : RegisterValues). h.mode) c.before-2.view_is in
     let screen = rw mode at c.screen_address-screen.ensures in
     let byte = read a.self.block.now c.screen_address-screen.result a.line.number a.column a.before.mode screen in
     let attribute = sym c.is_attribute.ensures ∙ c.if-is_attribute.true in
@@ -29,7 +29,7 @@ pub returns : goal.returns
 returns c =
     let a = c.args in
     let counter = a.self.state.counter in
-    let mode : c.before-2.inside.mode ≡ a.before.mode = ap (λ (h : Held). h.mode) c.before-2.view_is in
+    let mode : c.before-2.inside.mode ≡ a.before.mode = ap (λ (h : RegisterValues). h.mode) c.before-2.view_is in
     let screen = rw mode at c.screen_address-screen.ensures in
     let byte = read a.self.block.now c.screen_address-screen.result a.line.number a.column a.before.mode screen in
     let picture = sym c.is_attribute.ensures ∙ c.if-is_attribute.false in

@@ -2,7 +2,7 @@
 -- Assumes nothing.
 use Rattle.std.specs.Prelude.{ℕ}
 
-pub record Held : Type 0 where
+pub record RegisterValues : Type 0 where
   pub ink : ℕ
   pub style : ℕ
   pub paper : ℕ
