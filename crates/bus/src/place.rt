@@ -92,7 +92,7 @@ fn try_decode(profile: u8, latches: Latches, address: u16) -> Result<Place, Refu
 }
 
 // The controller of a machine, by its kind. Refusals 7, 13. That it is the controller of the latches is handed on to the two functions that
-// need it: a struct of the two would be made here and taken apart there.
+// need it: a struct of controller and latches would be made by three functions and taken apart in each of the two.
 pub(crate) fn controller_of(profile: u8, kind: u8) -> Result<Controller, Refusal>
     ensures status { status_of result ≡ refusal (kind_check kind ∷ controller_check profile kind ∷ []) }
     ensures value { IfOk result (λ controller. kind_of controller ≡ kind) }

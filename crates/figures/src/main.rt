@@ -1,6 +1,6 @@
 // The figures of document 01 that are run, the decode of every address, and digests of generated frames, a line each; then the same
 // of the 16K machine; then maps of used addresses, comparisons of frames, slips of lines, and the card of line starts. Each function that
-// prints is handed `out`, a handle to the output.
+// prints is handed `out`: a struct round the handle would be handed on in its place.
 #![tactic(auto)]
 
 mod comparing;

@@ -2,7 +2,7 @@
 use machine::PROFILE_48K;
 use std::fmt;
 
-// A line of the 48K machine does not name its profile. A profile is a number here, as in the state that video takes.
+// A line of the 48K machine does not name its profile. A profile is a number here, as in the state that C hands in.
 #[derive(Clone, Copy)]
 pub(crate) struct Machine(pub(crate) u8);
 

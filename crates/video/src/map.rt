@@ -14,7 +14,7 @@ use used_map::{BYTE_BITS, mark};
 pub(crate) const BLOCK_MARKS: usize = IMAGE_LENGTH_16K / BYTE_BITS;
 
 // Where in a map they begin. The second clause follows from the first; the end of the part is bounded by it. The
-// profile is a number, as `fold` takes it.
+// profile is a number, as `fold` takes it. The entry points cut the part themselves: a function that lent it would have to say what it lends.
 pub(crate) fn block_marks(profile: u8) -> usize
     ensures value { result ≡ folded profile video_block / byte_bits }
     ensures block_marks_bound { result + block_marks ≤ map_length }
