@@ -10,9 +10,9 @@ mod row;
 mod sets;
 
 use attributes::{ALTERNATE, ALTERNATE_DOUBLE, DOUBLE, FLASH, HIRES, INK, INVERSE, PAPER, TEXT};
-use memory::{Image, SPACE};
+use memory::{IMAGE_LENGTH, Image, SPACE};
 use sets::{BLOCK, MOSAIC};
-use std::io;
+use std::io::{Result, Write};
 
 impl Image {
     // Rows 0 and 1 hold the same text, its upper and its lower half. Row 2 numbers the columns.
@@ -101,7 +101,8 @@ impl Image {
     }
 }
 
-fn main(rt: HostRuntime) -> io::Result<()> {
+fn main(rt: HostRuntime) -> Result<()> {
+    let mut memory = [0u8; IMAGE_LENGTH];
     let mut image = Image::new();
     image.draw_font();
     image.draw_slanted_font();
@@ -117,5 +118,6 @@ fn main(rt: HostRuntime) -> io::Result<()> {
     image.bottom_standard();
     image.bottom_alternate();
     image.last_row();
-    image.write_to(&mut rt.stdout())
+    image.put_into(&mut memory);
+    rt.stdout().write_all(&memory)
 }

@@ -1,4 +1,6 @@
 // The character sets of the card: its font and 64 mosaics, in text mode and in hires mode.
+ghost use Rattle.std.specs.Prelude.{◌<◌, All};
+
 use crate::glyphs::{LETTERS, SIGNS};
 use crate::memory::{Glyph, Image};
 
@@ -44,7 +46,9 @@ fn draw_mosaics(glyphs: &mut [Glyph], mask: Glyph) {
 }
 
 // Bits 0 and 1 of the number are the top blocks, left and right; 2 and 3, and 4 and 5, those below.
-fn mosaic(number: usize, mask: Glyph) -> Glyph {
+fn mosaic(number: usize, mask: Glyph) -> Glyph
+    ensures { All (λ row. row < 64) result }
+{
     let top = blocks(number % 4);
     let middle = blocks(number / 4 % 4);
     let bottom = blocks(number / 16 % 4);
@@ -62,7 +66,9 @@ fn mosaic(number: usize, mask: Glyph) -> Glyph {
 }
 
 // Two blocks beside each other, three pixels each.
-fn blocks(pair: usize) -> u8 {
+fn blocks(pair: usize) -> u8
+    ensures { result < 64 }
+{
     match pair {
         0 => 0b000000,
         1 => 0b111000,
