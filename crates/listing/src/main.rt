@@ -4,29 +4,60 @@
 
 mod text;
 
-ghost use Rattle.std.specs.Prelude.{◌≡◌, take, IfOk, IfSome, OnOk};
-ghost use Rattle.std.specs.Io.KnownBytes.{Appends};
+ghost use Rattle.std.specs.Prelude.{◌≡◌, ◌≤◌, ◌<◌, length, take, IfOk, IfSome, OnOk};
+ghost use Rattle.std.specs.Io.KnownBytes.{Appends, Consumes, IsAtEnd};
 ghost use Rattle.listing.specs.Text.{frame_text, listing_text};
 
-use arrayvec::ArrayVec;
 use machine::{DONE, FRAME_LENGTH, IMAGE_LENGTH, LINE_LENGTH};
-use std::io::{self, Read, Result, Write};
+use std::io::{self, ErrorKind, Read, Result, Write};
 use video::Painted;
 
 // One byte more than an image, which tells a longer input from an image.
 const MOST_READ: usize = IMAGE_LENGTH + 1;
 
-// Reads the input to its end, so that its writer is not cut off, and keeps what tells whether it is an image.
-fn read_image<R: Read>(input: &mut R) -> Result<ArrayVec<u8, MOST_READ>>
-    ensures { IfOk result (λ image. IfSome (R.remaining input.old) (λ bytes. image.items ≡ take MOST_READ bytes)) }
+// One read, made again where a signal interrupts it.
+fn read_some<R: Read>(input: &mut R, bytes: &mut [u8]) -> Result<usize>
+    ensures bound { IfOk result (λ count. count ≤ length bytes.new) }
+    ensures came { IfOk result (λ count. Consumes (R.remaining input.old) (R.remaining input.new) (take count bytes.new)) }
+    ensures end { IfOk result (λ count. count ≡ 0 → 0 < length bytes.new → IsAtEnd (R.remaining input.new)) }
 {
-    let mut image = ArrayVec::new();
-    // A reborrow, since the contract of by_ref does not say what it lends.
-    io::copy(&mut (&mut *input).take(MOST_READ as u64), &mut image)?;
-    if image.is_full() {
+    // A proved loop has to end, so the tries go to a number that no run uses up.
+    for _ in 0..u64::MAX {
+        match input.read(bytes) {
+            Err(error) if error.kind() == ErrorKind::Interrupted => (),
+            answer => return answer,
+        }
+    }
+    Err(ErrorKind::TimedOut.into())
+}
+
+// Reads straight into the bytes, each time as much as they have room for, until they are full or the input ends. Answers how many came.
+fn read_full<R: Read>(input: &mut R, bytes: &mut [u8]) -> Result<usize>
+    ensures bound { IfOk result (λ size. size ≤ length bytes.new) }
+    ensures came { IfOk result (λ size. IfSome (R.remaining input.old) (λ known. take size bytes.new ≡ take (length bytes.new) known)) }
+{
+    let mut size = 0;
+    while size < bytes.len() {
+        let count = read_some(input, &mut bytes[size..])?;
+        if count == 0 {
+            break;
+        }
+        size += count;
+    }
+    Ok(size)
+}
+
+// Reads the input to its end, so that its writer is not cut off, and keeps what tells whether it is an image. The room is lent: a vector
+// handed back would stand on the stack three times.
+fn read_image<R: Read>(input: &mut R, image: &mut [u8; MOST_READ]) -> Result<usize>
+    ensures bound { IfOk result (λ size. size ≤ MOST_READ) }
+    ensures kept { IfOk result (λ size. IfSome (R.remaining input.old) (λ bytes. take size image.new ≡ take MOST_READ bytes)) }
+{
+    let size = read_full(input, image)?;
+    if size == MOST_READ {
         io::copy(input, &mut io::sink())?;
     }
-    Ok(image)
+    Ok(size)
 }
 
 // The lines of the frame.
@@ -54,8 +85,9 @@ fn write_listing<W: Write>(out: &mut W, answer: Painted, frame: &[u8; FRAME_LENG
 }
 
 fn main(rt: HostRuntime) -> Result<()> {
-    let image = read_image(&mut rt.stdin())?;
+    let mut image = [0u8; MOST_READ];
+    let size = read_image(&mut rt.stdin(), &mut image)?;
     let mut frame = [0u8; FRAME_LENGTH];
-    let answer = video::paint_frame(image.as_slice(), video::fresh_state(), &mut frame);
+    let answer = video::paint_frame(&image[..size], video::fresh_state(), &mut frame);
     write_listing(&mut rt.stdout(), answer, &frame)
 }
