@@ -2,7 +2,7 @@
 ghost use Rattle.std.specs.Prelude.{◌≡◌, ◌-◌, ◌≤◌, [], ◌∷◌, IfOk};
 ghost use Rattle.machine.specs.Controller.{kind_of};
 ghost use Rattle.machine.specs.Refusal.{status_of, refusal, kind_check, controller_check};
-ghost use Rattle.bus.specs.Place.{target_number, ram, via, place, decode_refusal, decode_answer};
+ghost use Rattle.bus.specs.Place.{target_number, ram, via, microdisc_upper, place, decode_refusal, decode_answer};
 
 use crate::latch::Latches;
 use machine::{Controller, DONE, Refusal, bit, check_controller, check_profile, fold};
@@ -121,15 +121,16 @@ pub(crate) fn reach(profile: u8, controller: Controller, latches: Latches, addre
             Place::counted(Target::Controller, PAGE_3, address)
         }
         (_, 0x0300..=0x03FF) => Place::via(address),
-        (Controller::Microdisc, 0xC000..=0xFFFF) if bit(MICRODISC_BASIC, first) => {
-            Place::counted(Target::BasicRom, BASIC_START, address)
-        }
-        (Controller::Microdisc, 0xE000..=0xFFFF) if !bit(MICRODISC_OVERLAY, first) => {
-            Place::counted(Target::BootEprom, EPROM_START_8K, address)
-        }
-        (Controller::Microdisc, 0xC000..=0xFFFF) => {
-            Place::counted(Target::OverlayRam, 0, address)
-        }
+        (Controller::Microdisc, 0xC000..=0xDFFF) => Place::microdisc_upper(
+            first,
+            address,
+            Place::counted(Target::OverlayRam, 0, address),
+        ),
+        (Controller::Microdisc, 0xE000..=0xFFFF) => Place::microdisc_upper(
+            first,
+            address,
+            Place::counted(Target::BootEprom, EPROM_START_8K, address),
+        ),
         (Controller::Jasmin, 0xC000..=0xFFFF) if bit(JASMIN_OVERLAY, first) => {
             Place::counted(Target::OverlayRam, 0, address)
         }
@@ -142,6 +143,20 @@ pub(crate) fn reach(profile: u8, controller: Controller, latches: Latches, addre
 }
 
 impl Place {
+    // `eprom` is the place that the address reaches where the EPROM is selected.
+    fn microdisc_upper(latch: u64, address: u16, eprom: Place) -> Self
+        requires { BASIC_START ≤ address }
+        ensures { result ≡ microdisc_upper latch address eprom }
+    {
+        if bit(MICRODISC_BASIC, latch) {
+            Place::counted(Target::BasicRom, BASIC_START, address)
+        } else if bit(MICRODISC_OVERLAY, latch) {
+            Place::counted(Target::OverlayRam, 0, address)
+        } else {
+            eprom
+        }
+    }
+
     // Only RAM is mirrored: no other target's number is folded.
     fn ram(profile: u8, address: u16) -> Self
         ensures { result ≡ ram profile address }
