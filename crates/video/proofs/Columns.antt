@@ -33,15 +33,16 @@ module _ (ram : Ram) (counter line mode : ℕ) where
   abbrev first : ℕ → List Cell
   first = first_cells ram counter line mode
 
-  pub record Reached (cells : List (List ℕ)) (registers : Registers) (character column : ℕ) : Type 0 where
+  pub record Reached (cells : List (List ℕ)) (registers : Registers) (screen character column : ℕ) : Type 0 where
     pub size : length cells ≡ columns
     pub filled : take column cells ≡ colours (first column)
     pub path : registers ≡ registers_before ram line mode column
+    pub screens : screen ≡ column
     pub characters : character ≡ length (character_addresses (first column))
 
-  pub none : (cells : List (List ℕ)) (registers : Registers) → length cells ≡ columns → registers ≡ line_reset mode → Reached cells registers 0 0
+  pub none : (cells : List (List ℕ)) (registers : Registers) → length cells ≡ columns → registers ≡ line_reset mode → Reached cells registers 0 0 0
   unfolding first_cells gather registers_before character_addresses flat_map
-  none cells registers size reset = record { size = size; filled = refl; path = reset; characters = refl }
+  none cells registers size reset = record { size = size; filled = refl; path = reset; screens = refl; characters = refl }
 
   -- where addresses are marked, those of the cells before a column are
   abbrev pub Marked : Bool → ℕ → List ℕ → List ℕ → Type 0
@@ -52,7 +53,7 @@ module _ (ram : Ram) (counter line mode : ℕ) where
   none_marked true marks bytes = marked_none marks bytes
   none_marked false marks bytes = refl
 
-  module _ (cells : List (List ℕ)) (registers : Registers) (character column : ℕ) (here : Reached cells registers character column) where
+  module _ (cells : List (List ℕ)) (registers : Registers) (screen character column : ℕ) (here : Reached cells registers screen character column) where
     module _ (answer : PaintedCell) (e : answer ≡ painted_cell (cell ram counter line column registers)) where
       abbrev x : Cell
       x = cell_at ram counter line mode column
@@ -62,7 +63,7 @@ module _ (ram : Ram) (counter line mode : ℕ) where
       is = e ∙ ap (λ (r : Registers). painted_cell (cell ram counter line column r)) here.path
 
       pub next : column < columns
-          → Reached (set cells column answer.colours) answer.registers (character + from_bool (is_some answer.character)) (column + 1)
+          → Reached (set cells column answer.colours) answer.registers (screen + 1) (character + from_bool (is_some answer.character)) (column + 1)
       next more =
           let grown = cells_next ram counter line mode column in
           record {
@@ -72,6 +73,7 @@ module _ (ram : Ram) (counter line mode : ℕ) where
                 ∙ ap₂ (λ (l : List (List ℕ)) (a : PaintedCell). l ++ (a.colours ∷ [])) here.filled is
                 ∙ simp (grown, map-append);
             path = ap (λ (a : PaintedCell). a.registers) is ∙ sym (registers_next ram counter line mode column);
+            screens = ap (λ (n : ℕ). n + 1) here.screens;
             characters =
                 ap₂ (λ (n : ℕ) (a : PaintedCell). n + from_bool (is_some a.character)) here.characters is
                 ∙ ap (λ (n : ℕ). length (character_addresses (first column)) + n) (one_counted x.character)
@@ -95,9 +97,9 @@ module _ (ram : Ram) (counter line mode : ℕ) where
     few = omega (arith, here.characters, characters_most (first column), cells_length ram counter line mode column)
 
     pub all : column ≡ columns
-        → (◌≡◌ {A = PaintedLine} (record { registers = registers; screen = columns; character = character }) (painted_line ram counter line mode))
+        → (◌≡◌ {A = PaintedLine} (record { registers = registers; screen = screen; character = character }) (painted_line ram counter line mode))
         × (cells ≡ colours (line_cells ram counter line mode))
     all end = (
-      rw (here.path, here.characters, end, line_uses_screen_bytes ram counter line mode) refl,
+      rw (here.path, here.screens, here.characters, end, line_uses_screen_bytes ram counter line mode) refl,
       sym (take_all column cells (omega arith)) ∙ here.filled ∙ ap (λ (n : ℕ). colours (first n)) end,
     )

@@ -153,6 +153,7 @@ impl Source<'_> {
         ensures marks_after { marks.new ≡ cond MARKED (marked marks.old (used (line_cells (block_ram self.entry.block.now) self.entry.state.counter line.number before.mode))) marks.old }
     {
         let mut registers = before.line_reset();
+        let mut screen = 0;
         let mut character = 0;
         for (column, colours) in cells.iter_mut().enumerate() {
             let cell = self.paint_cell(line, column, registers);
@@ -161,11 +162,12 @@ impl Source<'_> {
             }
             *colours = cell.colours;
             registers = cell.registers;
+            screen += 1;
             character += usize::from(cell.character.is_some());
         }
         PaintedLine {
             registers,
-            screen: cells.len(),
+            screen,
             character,
         }
     }

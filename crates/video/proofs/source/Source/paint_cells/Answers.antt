@@ -18,9 +18,9 @@ loop-column-init g c = record {
 pub overflow_add-character : goal.overflow_add-character
 overflow_add-character g c =
     let cell = c.paint_cell-cell in
-    let grown = next _ _ _ _ _ _ _ _ c.loop-column.invariant.done cell.result cell.ensures (omega arith) in
+    let grown = next _ _ _ _ _ _ _ _ _ c.loop-column.invariant.done cell.result cell.ensures (omega arith) in
     let counted : c.from-character.result ≡ from_bool (is_some cell.result.character) = c.from-character.ensures ∙ ap from_bool c.is_some.ensures in
-    record { fits = rw counted (omega (arith, few _ _ _ _ _ _ _ _ grown)) }
+    record { fits = rw counted (omega (arith, few _ _ _ _ _ _ _ _ _ grown)) }
 
 pub loop-column-preserved : goal.loop-column-preserved
 loop-column-preserved g c =
@@ -32,15 +32,15 @@ loop-column-preserved g c =
       | then-this-ne0 w ↦ w.marks-is ∙ w.mark_cell.ensures ∙ simp (ne_eqb g.row.MARKED 0 w.if-this-ne0.true)
       | else-this-ne0 w ↦ w.marks-is ∙ simp (eq-eqb g.row.MARKED 0 w.if-this-ne0.false)
     ] in record {
-      done = rw counted (next _ _ _ _ _ _ _ _ here.invariant.done cell.result cell.ensures (omega arith));
-      marks = next_marked _ _ _ _ _ _ _ _ here.invariant.done cell.result cell.ensures (not (eqb g.row.MARKED 0)) _ here.marks _ here.invariant.marks after;
+      done = rw counted (next _ _ _ _ _ _ _ _ _ here.invariant.done cell.result cell.ensures (omega arith));
+      marks = next_marked _ _ _ _ _ _ _ _ _ here.invariant.done cell.result cell.ensures (not (eqb g.row.MARKED 0)) _ here.marks _ here.invariant.marks after;
     }
 
 pub returns-clause-value : goal.returns-clause-value
-returns-clause-value g c = (all _ _ _ _ _ _ _ _ c.loop-column.invariant.done (omega arith)).0
+returns-clause-value g c = (all _ _ _ _ _ _ _ _ _ c.loop-column.invariant.done (omega arith)).0
 
 pub returns-clause-cells_after : goal.returns-clause-cells_after
-returns-clause-cells_after g c = (all _ _ _ _ _ _ _ _ c.loop-column.invariant.done (omega arith)).1
+returns-clause-cells_after g c = (all _ _ _ _ _ _ _ _ _ c.loop-column.invariant.done (omega arith)).1
 
 pub returns-clause-marks_after : goal.returns-clause-marks_after
 returns-clause-marks_after g c = let end : c.loop-column.column ≡ columns = omega arith in rw end at c.loop-column.invariant.marks

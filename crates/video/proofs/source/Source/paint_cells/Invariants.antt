@@ -9,6 +9,6 @@ invariant-loop-column g l =
     let ram = block_ram l.self.block.now in
     let counter = l.self.state.counter in
     let mode = l.fn.before.mode in record {
-      done : Reached ram counter l.line.number mode l.cells l.registers l.character l.column;
+      done : Reached ram counter l.line.number mode l.cells l.registers l.screen l.character l.column;
       marks : Marked ram counter l.line.number mode (not (eqb g.row.MARKED 0)) l.column l.fn.marks l.marks;
     }
