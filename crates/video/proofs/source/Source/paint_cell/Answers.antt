@@ -35,14 +35,6 @@ returns c =
     let picture = sym c.is_attribute.ensures ∙ c.if-is_attribute.false in
     let bitmap = rw mode at c.is_bitmap-bitmap.ensures in
     let chosen : c.unwrap_or-pattern.result ≡ pattern_address (block_ram a.self.block.now) counter a.line.number a.column a.before =
-    rw (c.unwrap_or-pattern.ensures, c.choose-character.ensures, c.character_address-definition.ensures, bitmap, byte, screen) in
-    rw (
-      c.choose-character.ensures,
-      c.paint_colours-2.ensures,
-      c.character_address-definition.ensures,
-      bitmap,
-      chosen,
-      byte,
-      screen,
-    )
-    (picture_painted (block_ram a.self.block.now) counter a.line.number a.column a.before (rw byte at picture))
+    cc (c.unwrap_or-pattern.ensures, c.choose-character.ensures, c.character_address-definition.ensures, bitmap, byte, screen) in
+    let painted = picture_painted (block_ram a.self.block.now) counter a.line.number a.column a.before (rw byte at picture) in
+    cc (painted, c.choose-character.ensures, c.paint_colours-2.ensures, c.character_address-definition.ensures, bitmap, chosen, byte, screen)
