@@ -2,7 +2,7 @@
 -- alone.
 use Rattle.std.proofs.Common.{◌≡◌, ℕ, get_or, sym, ap, ◌∙◌}
 use Rattle.machine.specs.Image.{Image, byte_at}
-use Rattle.video.specs.Address.{screen_address}
+use Rattle.video.specs.Address.{screen_address, is_bitmap}
 use Rattle.video.specs.Cell.{screen_byte}
 use Rattle.video.specs.RegisterValues.{RegisterValues}
 use Rattle.video.specs.Internal.{block_ram}
@@ -33,7 +33,7 @@ returns c =
     let screen = rw mode at c.screen_address-screen.ensures in
     let byte = read a.self.block.now c.screen_address-screen.result a.line.number a.column a.before.mode screen in
     let picture = sym c.is_attribute.ensures ∙ c.if-is_attribute.false in
-    let bitmap = rw mode at c.is_bitmap-bitmap.ensures in
+    let bitmap : c.is_bitmap-bitmap.result ≡ is_bitmap a.line.number a.before.mode = cc (mode, c.is_bitmap-bitmap.ensures) in
     let chosen : c.unwrap_or-pattern.result ≡ pattern_address (block_ram a.self.block.now) counter a.line.number a.column a.before =
     cc (c.unwrap_or-pattern.ensures, c.choose-character.ensures, c.character_address-definition.ensures, bitmap, byte, screen) in
     let painted = picture_painted (block_ram a.self.block.now) counter a.line.number a.column a.before (rw byte at picture) in
