@@ -4,32 +4,16 @@
 
 mod text;
 
-ghost use Rattle.std.specs.Prelude.{◌≡◌, ◌≤◌, ◌<◌, length, take, IfOk, IfSome, OnOk};
-ghost use Rattle.std.specs.Io.KnownBytes.{Appends, Consumes, IsAtEnd};
+ghost use Rattle.std.specs.Prelude.{◌≡◌, ◌≤◌, length, take, IfOk, IfSome, OnOk};
+ghost use Rattle.std.specs.Io.KnownBytes.{Appends, IsAtEnd};
 ghost use Rattle.listing.specs.Text.{frame_text, listing_text};
 
 use machine::{DONE, FRAME_LENGTH, IMAGE_LENGTH, LINE_LENGTH};
-use std::io::{self, ErrorKind, Read, Result, Write};
+use std::io::{ErrorKind, Read, Result, Write};
 use video::Painted;
 
 // One byte more than an image, which tells a longer input from an image.
 const MOST_READ: usize = IMAGE_LENGTH + 1;
-
-// One read, made again where a signal interrupts it.
-fn read_some<R: Read>(input: &mut R, bytes: &mut [u8]) -> Result<usize>
-    ensures bound { IfOk result (λ count. count ≤ length bytes.new) }
-    ensures came { IfOk result (λ count. Consumes (R.remaining input.old) (R.remaining input.new) (take count bytes.new)) }
-    ensures end { IfOk result (λ count. count ≡ 0 → 0 < length bytes.new → IsAtEnd (R.remaining input.new)) }
-{
-    // A proved loop has to end, so the tries go to a number that no run uses up.
-    for _ in 0..u64::MAX {
-        match input.read(bytes) {
-            Err(error) if error.kind() == ErrorKind::Interrupted => (),
-            answer => return answer,
-        }
-    }
-    Err(ErrorKind::TimedOut.into())
-}
 
 // Reads straight into the bytes, each time as much as they have room for, until they are full or the input ends. Answers how many came.
 fn read_full<R: Read>(input: &mut R, bytes: &mut [u8]) -> Result<usize>
@@ -38,7 +22,7 @@ fn read_full<R: Read>(input: &mut R, bytes: &mut [u8]) -> Result<usize>
 {
     let mut size = 0;
     while size < bytes.len() {
-        let count = read_some(input, &mut bytes[size..])?;
+        let count = input.read(&mut bytes[size..])?;
         if count == 0 {
             break;
         }
@@ -47,15 +31,27 @@ fn read_full<R: Read>(input: &mut R, bytes: &mut [u8]) -> Result<usize>
     Ok(size)
 }
 
-// Reads the input to its end, so that its writer is not cut off, and keeps what tells whether it is an image. The room is lent: a vector
-// handed back would stand on the stack three times.
+// Reads to the end and keeps nothing. A proved loop has to end, so its turns go to a number that no run uses up.
+fn drop_rest<R: Read>(input: &mut R) -> Result<()>
+    ensures { OnOk result (IsAtEnd (R.remaining input.new)) }
+{
+    let mut dropped = [0u8; 4_096];
+    for _ in 0..u64::MAX {
+        if input.read(&mut dropped)? == 0 {
+            return Ok(());
+        }
+    }
+    Err(ErrorKind::TimedOut.into())
+}
+
+// Reads the input to its end, so that its writer is not cut off, and keeps what tells whether it is an image.
 fn read_image<R: Read>(input: &mut R, image: &mut [u8; MOST_READ]) -> Result<usize>
     ensures bound { IfOk result (λ size. size ≤ MOST_READ) }
     ensures kept { IfOk result (λ size. IfSome (R.remaining input.old) (λ bytes. take size image.new ≡ take MOST_READ bytes)) }
 {
     let size = read_full(input, image)?;
     if size == MOST_READ {
-        io::copy(input, &mut io::sink())?;
+        drop_rest(input)?;
     }
     Ok(size)
 }

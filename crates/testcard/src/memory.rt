@@ -3,6 +3,7 @@ ghost use Rattle.std.specs.Prelude.{◌≡◌, ◌+◌, ◌*◌, ◌≤◌, leng
 ghost use Rattle.testcard.specs.Image.{with_part, with_rows, with_card};
 
 use crate::row::Row;
+use std::mem::size_of;
 
 pub(crate) const SPACE: u8 = 0x20;
 
@@ -37,6 +38,9 @@ pub(crate) struct Image {
     pub(crate) screen: [Row; 28],
 }
 
+// The parts are all the memory from 9800 to BFDF, with no gap.
+const _: () = prove!(HIRES_SET + size_of::<Image>() == 0xBFE0);
+
 impl Image {
     // All bytes are 0, but the screen has spaces: the byte 0 is an attribute, black ink.
     pub(crate) fn new() -> Self {
@@ -50,7 +54,7 @@ impl Image {
         }
     }
 
-    // Puts each part into the memory, at its address. Lent, since an array handed back would stand on the stack three times.
+    // Puts each part into the memory, at its address. Lent: an array handed back would be copied.
     pub(crate) fn put_into(&self, memory: &mut [u8; IMAGE_LENGTH])
         ensures { memory.new ≡ with_card memory.old self.now }
     {

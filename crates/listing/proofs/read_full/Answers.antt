@@ -7,4 +7,4 @@ pub loop-size-preserved : goal.loop-size-preserved
 loop-size-preserved g c =
     let here = c.loop-size.invariant in
     let read = c.in_ok-count.ensures in
-    (omega arith, came_next _ _ _ _ _ _ _ here.0 (omega arith) here.1 read.came)
+    (omega arith, came_next _ _ _ _ _ _ _ here.0 (omega arith) here.1 read.bytes.0)

@@ -1,6 +1,0 @@
--- A read that failed took nothing, and the bytes keep their length.
-use Rattle.std.specs.Io.KnownBytes.{Keeps}
-use Rattle.listing.proofs.read_some.Given as goal
-
-abbrev pub invariant-loop : goal.invariant-loop
-invariant-loop g l = Keeps (g.R.Read.remaining l.initial.input) (g.R.Read.remaining l.input)
