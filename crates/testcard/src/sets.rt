@@ -17,6 +17,11 @@ const GAPS: Glyph = [
     0b110110, 0b110110, 0b000000, 0b110110, 0b110110, 0b000000, 0b110110, 0b110110,
 ];
 
+// They leave nothing beyond the six pixels of a cell.
+const _: () = prove!(
+    GAPS[0] | GAPS[1] | GAPS[2] | GAPS[3] | GAPS[4] | GAPS[5] | GAPS[6] | GAPS[7] < 64
+);
+
 impl Image {
     // The font and the block.
     pub(crate) fn draw_font(&mut self) {
